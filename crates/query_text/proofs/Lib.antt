@@ -1,0 +1,4 @@
+pub mod Words
+pub mod Queries
+pub mod Returns
+pub mod Texts

@@ -1,0 +1,155 @@
+use crate::{Query, head, node_item, number_item, read_line, signed_item};
+use std::test::Fail;
+use topo_base::{FaceId, IdNumber, NodeId, Signed, SignedNumber};
+
+const LARGEST: IdNumber = 2_147_483_647;
+
+fn edge(number: SignedNumber) -> Result<Signed, Fail> {
+    Ok(Signed::new(number).ok_or("no signed edge")?)
+}
+
+#[test]
+fn reads_each_form_with_its_least_and_greatest_ids(rt: HostRuntime) -> Result<(), Fail> {
+    let rows = [
+        ("node 1", Query::Node(NodeId(1))),
+        ("node 2147483647", Query::Node(NodeId(LARGEST))),
+        ("ring 1", Query::Ring(edge(1)?)),
+        ("ring -2147483647", Query::Ring(edge(-2_147_483_647)?)),
+        ("next -1", Query::Next(edge(-1)?)),
+        ("next 2147483647", Query::Next(edge(2_147_483_647)?)),
+        ("ends -1", Query::Ends(edge(-1)?)),
+        ("ends 2147483647", Query::Ends(edge(2_147_483_647)?)),
+        ("sides 1", Query::Sides(edge(1)?)),
+        ("sides -2147483647", Query::Sides(edge(-2_147_483_647)?)),
+        ("face 0", Query::Face(FaceId(0))),
+        ("face 2147483647", Query::Face(FaceId(LARGEST))),
+        ("adjacent 0", Query::Adjacent(FaceId(0))),
+        ("adjacent 2147483647", Query::Adjacent(FaceId(LARGEST))),
+        ("contains 1", Query::Contains(NodeId(1))),
+        ("contains 2147483647", Query::Contains(NodeId(LARGEST))),
+        ("islands 0", Query::Islands(FaceId(0))),
+        ("islands 2147483647", Query::Islands(FaceId(LARGEST))),
+        ("regions 0", Query::Regions(FaceId(0))),
+        ("regions 2147483647", Query::Regions(FaceId(LARGEST))),
+        (
+            "common 0 2147483647",
+            Query::Common(FaceId(0), FaceId(LARGEST)),
+        ),
+        (
+            "common 2147483647 0",
+            Query::Common(FaceId(LARGEST), FaceId(0)),
+        ),
+        (
+            "common 2147483647 2147483647",
+            Query::Common(FaceId(LARGEST), FaceId(LARGEST)),
+        ),
+        ("counts", Query::Counts),
+    ];
+    for (line, query) in rows {
+        assert_eq!(rt; read_line(line.as_bytes()), query, "{line}");
+    }
+    Ok(())
+}
+
+#[test]
+fn tells_lines_that_ask_nothing(rt: HostRuntime) -> Result<(), Fail> {
+    let spaces = [b' '; 257];
+    let letters = [b'a'; 257];
+    let mut comment = [b'x'; 257];
+    comment[0] = b'#';
+    let mut ended = [b' '; 257];
+    ended[255] = b'\r';
+    ended[256] = b'\r';
+    let rows: [(&[u8], Query); 53] = [
+        (b"", Query::Blank),
+        (b"\r", Query::Blank),
+        (b" ", Query::Blank),
+        (b"   ", Query::Blank),
+        (b"  \r", Query::Blank),
+        (b"#", Query::Blank),
+        (b"# node 1", Query::Blank),
+        (b"#\r", Query::Blank),
+        (&spaces[..255], Query::Blank),
+        (&comment[..255], Query::Blank),
+        (&ended[..256], Query::Blank),
+        (&letters[..255], Query::Bad),
+        (&letters[..256], Query::Long),
+        (&spaces[..256], Query::Long),
+        (&comment[..256], Query::Long),
+        (&ended, Query::Long),
+        (b"node 7\r", Query::Node(NodeId(7))),
+        (b"counts\r", Query::Counts),
+        (b"\r\r", Query::Bad),
+        (b"node 7\r\r", Query::Bad),
+        (b"node\r7", Query::Bad),
+        (b"node 7\r ", Query::Bad),
+        (b" #", Query::Bad),
+        (b"\t", Query::Bad),
+        (b" node 7", Query::Bad),
+        (b"node 7 ", Query::Bad),
+        (b"node  7", Query::Bad),
+        (b"node\t7", Query::Bad),
+        (b"node", Query::Bad),
+        (b"node ", Query::Bad),
+        (b"node 7 8", Query::Bad),
+        (b"node 0", Query::Bad),
+        (b"node -1", Query::Bad),
+        (b"node x", Query::Bad),
+        (b"node 2147483648", Query::Bad),
+        (b"contains 0", Query::Bad),
+        (b"ring 0", Query::Bad),
+        (b"ring -0", Query::Bad),
+        (b"ring +1", Query::Bad),
+        (b"ring -2147483648", Query::Bad),
+        (b"next 01", Query::Bad),
+        (b"next --1", Query::Bad),
+        (b"face 00", Query::Bad),
+        (b"face -1", Query::Bad),
+        (b"common 1", Query::Bad),
+        (b"common 1 ", Query::Bad),
+        (b"common 1  2", Query::Bad),
+        (b"common 1 2 3", Query::Bad),
+        (b"counts ", Query::Bad),
+        (b"counts 1", Query::Bad),
+        (b"NODE 7", Query::Bad),
+        (b"Counts", Query::Bad),
+        (b"node \xef\xbc\x97", Query::Bad),
+    ];
+    for (line, query) in rows {
+        assert_eq!(rt; read_line(line), query, "{line:?}");
+    }
+    Ok(())
+}
+
+#[test]
+fn prints_heads_and_items(rt: HostRuntime) -> Result<(), Fail> {
+    let rows = [
+        (Query::Node(NodeId(LARGEST)), "node 2147483647:"),
+        (Query::Ring(edge(-2_147_483_647)?), "ring -2147483647:"),
+        (Query::Next(edge(7)?), "next 7:"),
+        (Query::Ends(edge(-7)?), "ends -7:"),
+        (Query::Sides(edge(7)?), "sides 7:"),
+        (Query::Face(FaceId(0)), "face 0:"),
+        (Query::Adjacent(FaceId(10)), "adjacent 10:"),
+        (Query::Contains(NodeId(7)), "contains 7:"),
+        (Query::Islands(FaceId(0)), "islands 0:"),
+        (Query::Regions(FaceId(0)), "regions 0:"),
+        (Query::Common(FaceId(2), FaceId(1)), "common 2 1:"),
+        (Query::Counts, "counts:"),
+    ];
+    for (query, text) in &rows {
+        match query {
+            Query::Blank | Query::Bad | Query::Long => continue,
+            asked => assert_eq!(rt; head(asked).as_slice(), text.as_bytes(), "{text}"),
+        }
+    }
+    assert_eq!(rt; signed_item(edge(-3)?).as_slice(), b" -3".as_slice());
+    assert_eq!(rt;
+        signed_item(edge(2_147_483_647)?).as_slice(),
+        b" 2147483647".as_slice()
+    );
+    assert_eq!(rt; number_item(0).as_slice(), b" 0".as_slice());
+    assert_eq!(rt; number_item(LARGEST).as_slice(), b" 2147483647".as_slice());
+    assert_eq!(rt; node_item(NodeId(5)).as_slice(), b" n5".as_slice());
+    Ok(())
+}
