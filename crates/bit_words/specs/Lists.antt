@@ -1,0 +1,12 @@
+-- Lists made by index, and a test of an index.
+use Rattle.std.specs.Prelude.{ℕ, ◌==◌, Bool, false, List, map, Option, None, Some}
+use Rattle.std.specs.List.{range_with_len}
+
+-- f 0, f 1 and so on, n of them
+unfoldable pub tabulate : {X : Type 0} → ℕ → (ℕ → X) → List X
+tabulate n f = map f (range_with_len 0 n)
+
+-- whether there is one, and it is this number
+abbrev pub is_at : Option ℕ → ℕ → Bool
+is_at None j = false
+is_at (Some i) j = i == j

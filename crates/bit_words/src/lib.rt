@@ -1,0 +1,28 @@
+//! Words, bits and packed numbers over borrowed bytes, with a count of the words read.
+//!
+//! A step is one call of `WordView::word`. The view keeps its bytes to itself and `Steps` has no other
+//! call that raises it, so whoever holds views alone reads no word that is not counted.
+#![tactic(auto)]
+
+mod bit_maker;
+mod bit_view;
+mod in_word;
+mod memory;
+mod packed_maker;
+mod packed_view;
+mod steps;
+mod word_view;
+mod wrong_entry;
+
+pub use bit_maker::BitMaker;
+pub use bit_view::BitView;
+pub use in_word::{first_excess, last_excess, ones_below, place_of_one};
+pub use memory::Memory;
+pub use packed_maker::PackedMaker;
+pub use packed_view::PackedView;
+pub use steps::Steps;
+pub use word_view::WordView;
+pub use wrong_entry::WrongEntry;
+
+#[cfg(test)]
+mod tests;
