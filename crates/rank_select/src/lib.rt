@@ -1,0 +1,16 @@
+//! Counts of ones and zeros before a place, and the place of a one or a zero by its number.
+//!
+//! The bits stand beside a directory of counts, one for each block of 512 bits: a count reads the directory
+//! once and at most eight words of the block, and a place is found by halving the directory.
+#![tactic(auto)]
+
+mod counts;
+mod make;
+mod rank_view;
+
+pub use counts::check_counts;
+pub use make::make_counts;
+pub use rank_view::RankView;
+
+#[cfg(test)]
+mod tests;
