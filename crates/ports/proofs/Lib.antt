@@ -1,0 +1,4 @@
+pub mod Ends
+pub mod Names
+pub mod Results
+pub mod Written

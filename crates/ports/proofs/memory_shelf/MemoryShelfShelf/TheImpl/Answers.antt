@@ -1,0 +1,18 @@
+use Rattle.std.proofs.Common.{ap, Some}
+use Rattle.ports.proofs.Results.{rose_by_one}
+use Rattle.ports.proofs.memory_shelf.MemoryShelfShelf.TheImpl.Goals as goal
+
+pub read_at-tells : goal.read_at-tells
+read_at-tells g c = record {
+  within = c.ensures.within;
+  read = c.ensures.read;
+  no_fault = c.ensures.no_fault;
+  no_miss = c.ensures.no_miss;
+  missing = λ e. let told = c.ensures.missing e in (rose_by_one _ _ told.0, told.1);
+  missing_alone = c.ensures.missing_alone;
+  failed = λ e. rose_by_one _ _ (c.ensures.failed e);
+  failed_alone = c.ensures.failed_alone;
+  kept = ap Some c.ensures.kept;
+  never_falls = c.ensures.never_falls;
+  misses_never_fall = c.ensures.misses_never_fall;
+}

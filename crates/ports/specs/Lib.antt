@@ -1,0 +1,6 @@
+pub mod Outside
+pub mod FailingCalls
+pub mod MemorySource
+pub mod MemorySink
+pub mod MemoryShelf
+pub mod Adapters

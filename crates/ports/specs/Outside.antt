@@ -1,0 +1,43 @@
+-- What the outside holds and gives, where it tells.
+use Rattle.std.specs.Prelude.{◌≡◌, ℕ, ◌+◌, ◌-◌, ◌^◌, ◌<◌, ◌≤◌, min, List, [], ◌++◌, length, take, drop, Option, None, Some, ⊤, IfSome}
+use Rattle.std.specs.Io.KnownBytes.{Appends}
+
+-- the bytes of each name that is held
+abbrev pub Files : Type 0
+Files = List ℕ → Option (List ℕ)
+
+-- a count and one more, which stops at its last value
+abbrev pub one_more : ℕ → ℕ
+one_more count = min (count + 1) (2 ^ 64 - 1)
+
+-- a count rose, or stands at its last value
+abbrev pub Rose : ℕ → ℕ → Type 0
+Rose before after = one_more before ≤ after
+
+-- with room for more than nothing, nothing comes exactly at the end of the bytes
+abbrev pub IsEndAt : Option (List ℕ) → ℕ → ℕ → Type 0
+IsEndAt left room k = IfSome left (λ bytes. 0 < room → k ≡ 0 → bytes ≡ [])
+
+-- some bytes at the front of these were appended
+abbrev pub GainsPart : Option (List ℕ) → Option (List ℕ) → List ℕ → Type 0
+GainsPart before after bytes = (part : List ℕ) × (rest : List ℕ) × (part ++ rest ≡ bytes) × Appends before after part
+
+-- the name is held, where the files are told
+abbrev pub IsHeld : Option Files → List ℕ → Type 0
+IsHeld None name = ⊤
+IsHeld (Some files) name = (bytes : List ℕ) × (files name ≡ Some bytes)
+
+-- the name is not held, where the files are told
+abbrev pub IsNotHeld : Option Files → List ℕ → Type 0
+IsNotHeld None name = ⊤
+IsNotHeld (Some files) name = files name ≡ None
+
+-- where the files are told, the name is held and this is a part of its bytes from a place on, empty with room for more only behind the last byte
+abbrev pub IsPartAt : Option Files → List ℕ → ℕ → ℕ → List ℕ → Type 0
+IsPartAt None name at room part = ⊤
+IsPartAt (Some files) name at room part = (bytes : List ℕ) × (files name ≡ Some bytes) × (part ≡ take (length part) (drop at bytes)) × (0 < room → length part ≡ 0 → length bytes ≤ at)
+
+-- what was left is all taken
+abbrev pub IsReadToEnd : Option (List ℕ) → Option (List ℕ) → Type 0
+IsReadToEnd None after = ⊤
+IsReadToEnd (Some before) after = after ≡ Some []
