@@ -1,0 +1,8 @@
+use Rattle.topo_csv.proofs.Rows.{passed_on, rows_refused}
+use Rattle.topo_csv.proofs.table.read_rows.Goals as goal
+
+pub returns-in_err-header-clause-refused : goal.returns-in_err-header-clause-refused
+returns-in_err-header-clause-refused g c =
+    let gives = rw c.records-reader.ensures.left at c.in_ok-next_record.ensures.gives in
+    let refused = rw c.table.ensures at c.in_err-header.ensures.refused in
+    passed_on _ _ _ c.from_residual-in_err-header.ensures.1 (rows_refused g.R.TableRow.of_table g.R.TableRow.read_line _ _ _ _ _ gives refused)

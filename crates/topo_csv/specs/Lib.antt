@@ -1,0 +1,4 @@
+pub mod Codes
+pub mod Fault
+pub mod Left
+pub mod Lines

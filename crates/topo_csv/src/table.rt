@@ -1,0 +1,116 @@
+//! The rows of a table's bytes.
+
+ghost use Rattle.std.specs.Prelude.{◌≡◌, IfOk, IfErr, Ok};
+ghost use Rattle.csv.specs.Records.{fields_of};
+ghost use Rattle.plane_model.specs.Reading.{row_of, rows, rows_from, node_rows, edge_rows, face_rows, region_rows, member_rows};
+ghost use Rattle.topo_csv.specs.Fault.{IsFault};
+ghost use Rattle.topo_csv.specs.Left.{IsReading, left_in};
+ghost use Rattle.topo_csv.specs.Lines.{line_of, table_of};
+
+use crate::fault::CsvFault;
+use crate::header::{Header, most_rows};
+use crate::line::Line;
+use crate::record::{next_record, records};
+use crate::row::TableRow;
+use csv::{ByteRecord, Reader};
+use plane_model::{EdgeRow, FaceRow, MemberRow, NodeRow, RegionRow};
+use std::alloc::Global;
+use topo_base::Refusal;
+
+/// The row of a line, which stands within the table's limit and has as many fields as the header.
+fn read_row<R: TableRow>(line: &Line<'_>) -> Result<R, Refusal>
+    requires { table_of line.now ≡ R.of_table }
+    ensures { result ≡ row_of R.of_table R.read_line (line_of line.now) }
+{
+    let table = R::table();
+    if line.row > most_rows(table) {
+        return Err(Refusal::TooMany { table });
+    }
+    let found = line.fields.len();
+    let wanted = line.header.names.len();
+    if found != wanted {
+        return Err(Refusal::RowShape {
+            table,
+            row: line.row,
+            fields: found as u64,
+            wanted: wanted as u64,
+        });
+    }
+    R::read(line)
+}
+
+/// The rows of the lines below a header. No more are held than the table may have.
+fn read_lines<R: TableRow>(
+    alloc: Global,
+    header: &Header,
+    reader: &mut Reader<&[u8]>,
+) -> Result<Vec<R>, CsvFault>
+    requires table { header.now.table ≡ R.of_table }
+    requires reading { IsReading reader.old }
+    ensures rows { IfOk result (λ rows. rows_from R.of_table R.read_line (fields_of header.now.names) 1 (left_in reader.old) ≡ Ok rows.items) }
+    ensures refused { IfErr result (λ e. IsFault e (rows_from R.of_table R.read_line (fields_of header.now.names) 1 (left_in reader.old))) }
+{
+    let mut rows = Vec::new(alloc);
+    let mut fields = ByteRecord::new(alloc);
+    while next_record(reader, &mut fields)? {
+        let line = Line {
+            header,
+            row: rows.len() as u64 + 1,
+            fields: &fields,
+        };
+        rows.push(read_row(&line)?)?;
+    }
+    Ok(rows)
+}
+
+/// The rows of any table.
+fn read_rows<R: TableRow>(alloc: Global, bytes: &[u8]) -> Result<Vec<R>, CsvFault>
+    ensures rows { IfOk result (λ read. rows R.of_table R.read_line bytes.now ≡ Ok read.items) }
+    ensures refused { IfErr result (λ e. IsFault e (rows R.of_table R.read_line bytes.now)) }
+{
+    let mut reader = records(alloc, bytes);
+    let mut names = ByteRecord::new(alloc);
+    next_record(&mut reader, &mut names)?;
+    let header = Header::new(R::table(), names)?;
+    read_lines(alloc, &header, &mut reader)
+}
+
+/// The rows of a node table, in the order of the file. `containing_face` may be NULL.
+pub fn read_nodes(alloc: Global, bytes: &[u8]) -> Result<Vec<NodeRow>, CsvFault>
+    ensures rows { IfOk result (λ rows. node_rows bytes.now ≡ Ok rows.items) }
+    ensures refused { IfErr result (λ e. IsFault e (node_rows bytes.now)) }
+{
+    read_rows(alloc, bytes)
+}
+
+/// The rows of an edge table, in the order of the file. Nothing in it may be NULL.
+pub fn read_edges(alloc: Global, bytes: &[u8]) -> Result<Vec<EdgeRow>, CsvFault>
+    ensures rows { IfOk result (λ rows. edge_rows bytes.now ≡ Ok rows.items) }
+    ensures refused { IfErr result (λ e. IsFault e (edge_rows bytes.now)) }
+{
+    read_rows(alloc, bytes)
+}
+
+/// The rows of a face table, in the order of the file. Face 0 may have a row.
+pub fn read_faces(alloc: Global, bytes: &[u8]) -> Result<Vec<FaceRow>, CsvFault>
+    ensures rows { IfOk result (λ rows. face_rows bytes.now ≡ Ok rows.items) }
+    ensures refused { IfErr result (λ e. IsFault e (face_rows bytes.now)) }
+{
+    read_rows(alloc, bytes)
+}
+
+/// The rows of a region table, in the order of the file. `parent` may be NULL, at a root.
+pub fn read_regions(alloc: Global, bytes: &[u8]) -> Result<Vec<RegionRow>, CsvFault>
+    ensures rows { IfOk result (λ rows. region_rows bytes.now ≡ Ok rows.items) }
+    ensures refused { IfErr result (λ e. IsFault e (region_rows bytes.now)) }
+{
+    read_rows(alloc, bytes)
+}
+
+/// The rows of a member table, in the order of the file. Face 0 may be a member.
+pub fn read_members(alloc: Global, bytes: &[u8]) -> Result<Vec<MemberRow>, CsvFault>
+    ensures rows { IfOk result (λ rows. member_rows bytes.now ≡ Ok rows.items) }
+    ensures refused { IfErr result (λ e. IsFault e (member_rows bytes.now)) }
+{
+    read_rows(alloc, bytes)
+}
