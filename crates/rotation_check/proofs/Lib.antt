@@ -1,0 +1,16 @@
+pub mod Sides
+pub mod FirstIn
+pub mod DartLists
+pub mod Indexes
+pub mod Parts
+pub mod SplitNodes
+pub mod RoundWalk
+pub mod Leaving
+pub mod SmallestNext
+pub mod ReadAt
+pub mod EndLemmas
+pub mod Turning
+pub mod Ranges
+pub mod Numbering
+pub mod RowLemmas
+pub mod CountLemmas

@@ -1,0 +1,6 @@
+pub mod Counts
+pub mod Checked
+pub mod Darts
+pub mod Index
+pub mod Indexed
+pub mod Numbered

@@ -1,0 +1,25 @@
+//! Whether tables are a rotation system, and the rotation of those that are.
+#![tactic(auto)]
+
+mod alone;
+pub mod checks;
+mod counts;
+mod darts;
+mod ends;
+mod faces;
+mod ids;
+mod index;
+mod nexts;
+mod nodes;
+pub mod rotation;
+mod rounds;
+mod signed;
+#[cfg(test)]
+mod tests;
+mod twice;
+
+pub use checks::{CheckFault, check};
+pub use darts::reversed;
+pub use ids::node_ids;
+pub use index::rows_by_id;
+pub use rotation::Rotation;
