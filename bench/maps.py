@@ -1,0 +1,112 @@
+"""Large maps as tables, and runs of the built program over them."""
+
+import os
+import resource
+import subprocess
+import sys
+import tempfile
+import time
+
+TOP = os.path.dirname(os.path.dirname(os.path.abspath(__file__)))
+PROGRAM = os.path.join(TOP, "crates", "topo_cli", "out", "topo_cli")
+
+EDGE_HEADER = "edge_id,start_node,end_node,next_left_edge,next_right_edge,left_face,right_face\n"
+
+
+def write_tables(folder, nodes, edges, faces):
+    """Writes node (id, face or None), edge (seven numbers) and face (id) rows as a folder's tables."""
+    with open(os.path.join(folder, "node.csv"), "w") as file:
+        file.write("node_id,containing_face\n")
+        file.writelines(f"{n},{'' if f is None else f}\n" for n, f in nodes)
+    with open(os.path.join(folder, "edge.csv"), "w") as file:
+        file.write(EDGE_HEADER)
+        file.writelines(",".join(map(str, e)) + "\n" for e in edges)
+    with open(os.path.join(folder, "face.csv"), "w") as file:
+        file.write("face_id\n")
+        file.writelines(f"{f}\n" for f in faces)
+
+
+def ring(first, count, face):
+    """The edges of one ring round a face, in face 0; edge and start node have one number."""
+    for i in range(count):
+        e = first + i
+        after = first + (i + 1) % count
+        before = first + (i - 1) % count
+        yield e, e, after, after, -before, face, 0
+
+
+def rings(folder, count, length):
+    """So many rings of so many edges side by side."""
+    edges = (e for i in range(count) for e in ring(1 + i * length, length, i + 1))
+    write_tables(folder, ((n, None) for n in range(1, count * length + 1)), edges, range(1, count + 1))
+
+
+def grid_edges(n):
+    """The edges of a grid of n by n cells: east edges first, then north edges."""
+    def east(r, c):
+        return 1 + r * n + c
+
+    def north(r, c):
+        return 1 + n * (n + 1) + r * (n + 1) + c
+
+    def cell(r, c):
+        return 1 + r * n + c if 0 <= r < n and 0 <= c < n else 0
+
+    def leaving(r, c, direction):
+        """The signed edge that leaves a node to the north, east, south or west, or None."""
+        if direction == 0:
+            return north(r, c) if r < n else None
+        if direction == 1:
+            return east(r, c) if c < n else None
+        if direction == 2:
+            return -north(r - 1, c) if r > 0 else None
+        return -east(r, c - 1) if c > 0 else None
+
+    def after(r, c, direction):
+        """The next of a signed edge that enters a node in a direction."""
+        back = (direction + 2) % 4
+        for turn in range(1, 5):
+            edge = leaving(r, c, (back + turn) % 4)
+            if edge is not None:
+                return edge
+        raise AssertionError("a node without edges")
+
+    def node(r, c):
+        return 1 + r * (n + 1) + c
+
+    for r in range(n + 1):
+        for c in range(n):
+            yield (east(r, c), node(r, c), node(r, c + 1), after(r, c + 1, 1), after(r, c, 3), cell(r, c), cell(r - 1, c))
+    for r in range(n):
+        for c in range(n + 1):
+            yield (north(r, c), node(r, c), node(r + 1, c), after(r + 1, c, 0), after(r, c, 2), cell(r, c - 1), cell(r, c))
+
+
+def grid(folder, n):
+    """A grid of n by n cells."""
+    write_tables(folder, ((v, None) for v in range(1, (n + 1) ** 2 + 1)), grid_edges(n), range(1, n * n + 1))
+
+
+def size_of(folder):
+    return sum(os.path.getsize(os.path.join(folder, name)) for name in os.listdir(folder))
+
+
+def ask(what, folder, script):
+    """Runs `ask` and prints time, peak memory and what came out."""
+    if not os.access(PROGRAM, os.X_OK):
+        sys.exit("build the program first: ./tackcherry ask examples/triangle < examples/triangle/script.txt")
+    with tempfile.TemporaryFile() as given, tempfile.TemporaryFile() as out:
+        given.write(script.encode())
+        given.seek(0)
+        begin = time.perf_counter()
+        child = subprocess.Popen([PROGRAM, "ask", folder], stdin=given, stdout=out)
+        _, status, usage = os.wait4(child.pid, 0)
+        seconds = time.perf_counter() - begin
+        child.returncode = os.waitstatus_to_exitcode(status)
+        answered = out.seek(0, os.SEEK_END)
+        out.seek(0)
+        first = out.read(60).decode(errors="replace").split("\n")[0]
+    megabytes = usage.ru_maxrss / 1024
+    print(f"{what}: {seconds:.2f} s, peak {megabytes:.0f} MiB, tables {size_of(folder) / 2**20:.0f} MiB, "
+          f"status {child.returncode}, {answered} bytes of answers, first {first!r}", flush=True)
+    return seconds

@@ -1,0 +1,13 @@
+pub mod Loads
+pub mod Faceless
+pub mod Front
+pub mod LineLemmas
+pub mod Written
+pub mod Statuses
+pub mod Complete
+pub mod Taken
+pub mod ExplicitDarts
+pub mod ExplicitWalking
+pub mod ExplicitLeast
+pub mod ExplicitLookups
+pub mod ExplicitItems

@@ -1,0 +1,140 @@
+-- What was read of a table, where the files are told.
+use Rattle.std.proofs.Common.{◌≡◌, ℕ, ◌≤◌, List, [], length, Option, Some, None, Result, Ok, Err, refl, sym, ap, subst, ◌∙◌, IfSome, IfErr, IsErrAnd, IsTrue}
+use Rattle.std.proofs.lemmas.Bool.{lt-ltb, le-ltb}
+use Rattle.ports.specs.Outside.{Files}
+use Rattle.topo_base.specs.declared.refusal.Refusal.{Refusal}
+use Rattle.topo_csv.specs.declared.fault.CsvFault.{CsvFault}
+use Rattle.topo_csv.specs.declared.fault.CsvFault.TheVariants as csv
+use Rattle.topo_csv.specs.Fault.{IsFault}
+use Rattle.topo_cli.specs.Limits.{most_bytes}
+use Rattle.topo_cli.specs.Files.{IsWhole}
+use Rattle.topo_cli.specs.Tables.{◌>>=◌, Ending, table, read_by, read_or_missing, or_refused, loaded, checked, served}
+use Rattle.topo_cli.specs.Words.{node_table, edge_table, face_table}
+use Rattle.plane_model.specs.Rows.{Rows}
+use Rattle.plane_model.specs.InRange.{is_in_range}
+use Rattle.plane_model.specs.Rotation.{is_rotation_system}
+use Rattle.plane_model.specs.Faults.{rotation_fault}
+use Rattle.plane_model.proofs.AllFaults.{None_from}
+use Rattle.plane_model.proofs.RotationFaults.{none-rotation_fault}
+use Rattle.rotation_check.specs.Darts.{RotationRows}
+use Rattle.rotation_check.specs.Checked.{Names}
+use Rattle.rotation_check.specs.declared.checks.CheckFault.{CheckFault}
+use Rattle.rotation_check.specs.declared.checks.CheckFault.TheVariants as check
+use Rattle.plane_model.specs.declared.rows.NodeRow.{NodeRow}
+use Rattle.plane_model.specs.declared.rows.EdgeRow.{EdgeRow}
+use Rattle.plane_model.specs.declared.rows.FaceRow.{FaceRow}
+use Rattle.plane_model.specs.declared.rows.RegionRow.{RegionRow}
+use Rattle.plane_model.specs.declared.rows.MemberRow.{MemberRow}
+use Rattle.plane_model.specs.Reading.{node_rows, edge_rows, face_rows}
+use Rattle.topo_cli.specs.Loading.{IsEnding, Ends, IsStopped, IsSame, IsSameCheck, NamesOnly, Serves}
+use Rattle.topo_cli.specs.declared.load.LoadFault.{LoadFault}
+use Rattle.topo_cli.specs.declared.load.LoadFault.TheVariants as fault
+
+-- bytes within the limit are read
+within : {A : Type 0} (read : List ℕ → Result A Refusal) (bytes : List ℕ) → length bytes ≤ most_bytes → read_by read bytes ≡ or_refused (read bytes)
+within read bytes h = rw (le-ltb most_bytes (length bytes) h) refl
+
+held : {A : Type 0} (read : List ℕ → Result A Refusal) (files : Files) (name bytes : List ℕ) → files name ≡ Some bytes → length bytes ≤ most_bytes → table read files name ≡ or_refused (read bytes)
+unfolding table
+held read files name bytes is h = ap (read_or_missing read name) is ∙ within read bytes h
+
+pub table_rows : {R : Type 0} (read : List ℕ → Result (List R) Refusal) (files : Option Files) (name bytes : List ℕ) (rows : List R)
+    → IsWhole files name bytes → length bytes ≤ most_bytes → read bytes ≡ Ok rows → IfSome files (λ f. table read f name ≡ Ok rows)
+table_rows read None name bytes rows whole h is = tt
+table_rows read (Some files) name bytes rows whole h is = held read files name bytes whole h ∙ ap or_refused is
+
+pub table_refused : {R : Type 0} (read : List ℕ → Result (List R) Refusal) (files : Option Files) (name bytes : List ℕ) (why : CsvFault) (e : LoadFault)
+    → IsWhole files name bytes → length bytes ≤ most_bytes → IsFault why (read bytes) → IsSame why e → Ends files (λ f. table read f name) e
+table_refused read None name bytes why e whole h is same = tt
+table_refused read (Some files) name bytes (csv.Refused r) e whole h is same = rw same (held read files name bytes whole h ∙ ap or_refused is)
+table_refused read (Some files) name bytes csv.Memory e whole h is same = rw same tt
+
+pub table_stopped : {R : Type 0} (read : List ℕ → Result (List R) Refusal) (files : Option Files) (name : List ℕ) (e : LoadFault)
+    → IsStopped files name e → NamesOnly name e → Ends files (λ f. table read f name) e
+unfolding table
+table_stopped read None name e stopped named = tt
+table_stopped read (Some files) name (fault.Missing said) stopped named = ap (read_or_missing read name) stopped ∙ ap (λ n. Err (Ending.Missing n)) (sym named)
+table_stopped read (Some files) name fault.ReadFault stopped named = tt
+table_stopped read (Some files) name fault.TooLong stopped named = ap (read_or_missing read name) stopped.1 ∙ rw (lt-ltb most_bytes (length stopped.0) stopped.2) refl
+table_stopped read (Some files) name (fault.Refused r) stopped named = absurd stopped
+table_stopped read (Some files) name fault.Memory stopped named = tt
+
+-- what holds of the error that there is
+pub err_and : {T E : Type 0} (r : Result T E) (P Q : E → Type 0) → IsErrAnd r P → ((e : E) → P e → Q e) → IfErr r Q
+err_and (Ok x) P Q is each = absurd is
+err_and (Err e) P Q is each = each e is
+
+-- the same where the name and the bytes were handed on
+pub rows_at : {R : Type 0} (read : List ℕ → Result (List R) Refusal) (files : Option Files) (said name bytes seen : List ℕ) (rows : List R)
+    → said ≡ name → seen ≡ bytes → IsWhole files said bytes → length bytes ≤ most_bytes → read seen ≡ Ok rows → IfSome files (λ f. table read f name ≡ Ok rows)
+rows_at read files said name bytes seen rows named same whole h is =
+    let P : List ℕ → Type 0 = λ n. IsWhole files n bytes in
+    table_rows read files name bytes rows (subst P named whole) h (ap read (sym same) ∙ is)
+
+pub refused_at : {R : Type 0} (read : List ℕ → Result (List R) Refusal) (files : Option Files) (said name bytes seen : List ℕ) (why : CsvFault) (e : LoadFault)
+    → said ≡ name → seen ≡ bytes → IsWhole files said bytes → length bytes ≤ most_bytes → IsFault why (read seen) → IsSame why e → Ends files (λ f. table read f name) e
+refused_at read files said name bytes seen why e named seen_is whole h is same =
+    let P : List ℕ → Type 0 = λ n. IsWhole files n bytes in
+    let Q : List ℕ → Type 0 = λ n. IsFault why (read n) in
+    table_refused read files name bytes why e (subst P named whole) h (subst Q seen_is is) same
+
+pub stopped_at : {R : Type 0} (read : List ℕ → Result (List R) Refusal) (files : Option Files) (said name : List ℕ) (e : LoadFault)
+    → said ≡ name → IsStopped files said e → NamesOnly said e → Ends files (λ f. table read f name) e
+stopped_at read files said name e named stopped only =
+    let P : List ℕ → Type 0 = λ n. IsStopped files n e in
+    let Q : List ℕ → Type 0 = λ n. NamesOnly n e in
+    table_stopped read files name e (subst P named stopped) (subst Q named only)
+
+pub loaded_rows : (files : Option Files) (dir : List ℕ) (nodes : List NodeRow) (edges : List EdgeRow) (faces : List FaceRow) (regions : List RegionRow) (members : List MemberRow)
+    → regions ≡ [] → members ≡ [] → IfSome files (λ f. table node_rows f (node_table dir) ≡ Ok nodes) → IfSome files (λ f. table edge_rows f (edge_table dir) ≡ Ok edges) → IfSome files (λ f. table face_rows f (face_table dir) ≡ Ok faces)
+    → IfSome files (λ f. loaded f dir ≡ Ok (record { nodes = nodes; edges = edges; faces = faces; regions = regions; members = members }))
+unfolding loaded
+loaded_rows None dir nodes edges faces regions members r m n e f = tt
+loaded_rows (Some files) dir nodes edges faces regions members r m n e f = rw (n, e, f, r, m) refl
+
+-- an ending of one table is that of all
+ended : {A B : Type 0} (e : LoadFault) (r : Result A Ending) (next : A → Result B Ending) → IsEnding e r → IsEnding e (r >>= next)
+ended (fault.Missing name) r next is = rw is refl
+ended fault.ReadFault r next is = tt
+ended fault.TooLong r next is = rw is refl
+ended (fault.Refused why) r next is = rw is refl
+ended fault.Memory r next is = tt
+
+pub ends_at_nodes : (files : Option Files) (dir : List ℕ) (e : LoadFault) → Ends files (λ f. table node_rows f (node_table dir)) e → Ends files (λ f. loaded f dir) e
+unfolding loaded
+ends_at_nodes None dir e is = tt
+ends_at_nodes (Some files) dir e is = ended e (table node_rows files (node_table dir)) _ is
+
+pub ends_at_edges : (files : Option Files) (dir : List ℕ) (nodes : List NodeRow) (e : LoadFault)
+    → IfSome files (λ f. table node_rows f (node_table dir) ≡ Ok nodes) → Ends files (λ f. table edge_rows f (edge_table dir)) e → Ends files (λ f. loaded f dir) e
+unfolding loaded
+ends_at_edges None dir nodes e n is = tt
+ends_at_edges (Some files) dir nodes e n is = rw n (ended e (table edge_rows files (edge_table dir)) _ is)
+
+pub ends_at_faces : (files : Option Files) (dir : List ℕ) (nodes : List NodeRow) (edges : List EdgeRow) (e : LoadFault)
+    → IfSome files (λ f. table node_rows f (node_table dir) ≡ Ok nodes) → IfSome files (λ f. table edge_rows f (edge_table dir) ≡ Ok edges)
+    → Ends files (λ f. table face_rows f (face_table dir)) e → Ends files (λ f. loaded f dir) e
+unfolding loaded
+ends_at_faces None dir nodes edges e n k is = tt
+ends_at_faces (Some files) dir nodes edges e n k is = rw (n, k) (ended e (table face_rows files (face_table dir)) _ is)
+
+-- tables that were loaded and checked are served
+pub serves : (files : Option Files) (dir : List ℕ) (t : Rows) (rotation : RotationRows)
+    → IfSome files (λ f. loaded f dir ≡ Ok t) → IsTrue (is_in_range t) → IsTrue (is_rotation_system t) → rotation.nodes ≡ t.nodes → rotation.edges ≡ t.edges
+    → IfSome files (λ f. Serves rotation (served f dir))
+unfolding checked
+serves None dir t rotation l r system n e = tt
+serves (Some files) dir t rotation l r system n e =
+    let fine : rotation_fault t ≡ None = None_from _ _ (none-rotation_fault t r) system in
+    rw (l, fine) (record { system = system; nodes = n; edges = e })
+
+pub ends_at_load : (files : Option Files) (dir : List ℕ) (e : LoadFault) → Ends files (λ f. loaded f dir) e → Ends files (λ f. served f dir) e
+ends_at_load None dir e is = tt
+ends_at_load (Some files) dir e is = ended e (loaded files dir) checked is
+
+pub ends_at_check : (files : Option Files) (dir : List ℕ) (t : Rows) (why : CheckFault) (e : LoadFault)
+    → IfSome files (λ f. loaded f dir ≡ Ok t) → Names why (rotation_fault t) → IsSameCheck why e → Ends files (λ f. served f dir) e
+unfolding checked
+ends_at_check None dir t why e l is same = tt
+ends_at_check (Some files) dir t (check.Refused r) e l is same = rw (same, l, is) refl
+ends_at_check (Some files) dir t check.Memory e l is same = rw same tt

@@ -1,0 +1,36 @@
+use Rattle.std.proofs.Common.{◌≡◌, sym, subst}
+use Rattle.std.specs.Prelude.{string_bytes}
+use Rattle.topo_base.specs.declared.refusal.Table.TheVariants as kind
+use Rattle.plane_model.specs.Reading.{edge_row, edge_rows}
+use Rattle.plane_model.specs.InRange.{is_edge_in_range}
+use Rattle.plane_model.proofs.ReadInRange.{rows-read, edge_row-in_range}
+use Rattle.topo_cli.specs.Words.{edge_table}
+use Rattle.topo_cli.specs.Loading.{Ends}
+use Rattle.topo_cli.specs.Tables.{table}
+use Rattle.topo_cli.specs.declared.load.LoadFault.{LoadFault}
+use Rattle.topo_cli.proofs.Loads.{err_and, rows_at, refused_at, stopped_at}
+use Rattle.topo_cli.proofs.load.load_edges.Goals as goal
+
+pub returns-in_err-bytes-clause-ends : goal.returns-in_err-bytes-clause-ends
+returns-in_err-bytes-clause-ends g c =
+    let name : string_bytes c.in_ok-name.name ≡ edge_table c.args.dir.now = c.in_ok-name.ensures.ok in
+    let P : LoadFault → Type 0 = Ends (g.H.Shelf.files c.args.shelf.now) (λ files. table edge_rows files (edge_table c.args.dir.now)) in
+    err_and _ _ P c.from_residual-in_err-bytes.ensures.1
+    (λ e same. subst P (sym same) (stopped_at edge_rows _ _ _ _ name c.in_err-bytes.ensures.stopped c.in_err-bytes.ensures.named))
+
+pub returns-in_err-read_edges-clause-ends : goal.returns-in_err-read_edges-clause-ends
+returns-in_err-read_edges-clause-ends g c =
+    let name : string_bytes c.in_ok-name.name ≡ edge_table c.args.dir.now = c.in_ok-name.ensures.ok in
+    let P : LoadFault → Type 0 = Ends (g.H.Shelf.files c.args.shelf.now) (λ files. table edge_rows files (edge_table c.args.dir.now)) in
+    err_and _ _ P c.from_residual-in_err-read_edges.ensures.1
+    (λ e same. refused_at edge_rows _ _ _ _ _ _ e name c.deref.ensures.value c.in_ok-bytes.ensures.whole c.in_ok-bytes.ensures.short c.in_err-read_edges.ensures.refused same)
+
+pub returns-clause-rows : goal.returns-clause-rows
+returns-clause-rows g c =
+    rows_at edge_rows _ _ _ _ _ _ c.in_ok-name.ensures.ok c.deref.ensures.value c.in_ok-bytes.ensures.whole c.in_ok-bytes.ensures.short c.in_ok-read_edges.ensures.rows
+
+pub returns-clause-in_range : goal.returns-clause-in_range
+returns-clause-in_range g c = (rows-read kind.Edge edge_row is_edge_in_range edge_row-in_range c.deref.result.now c.in_ok-read_edges.field-0.items c.in_ok-read_edges.ensures.rows).0
+
+pub returns-clause-few : goal.returns-clause-few
+returns-clause-few g c = (rows-read kind.Edge edge_row is_edge_in_range edge_row-in_range c.deref.result.now c.in_ok-read_edges.field-0.items c.in_ok-read_edges.ensures.rows).1

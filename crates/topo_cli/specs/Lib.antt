@@ -1,0 +1,11 @@
+pub mod Limits
+pub mod Words
+pub mod Text
+pub mod Tables
+pub mod Answering
+pub mod Outcome
+pub mod Files
+pub mod Loading
+pub mod Exit
+pub mod ExplicitWalks
+pub mod ExplicitFirsts

@@ -1,0 +1,76 @@
+-- What stopped the loading of tables.
+use Rattle.std.specs.Prelude.{◌≡◌, ℕ, List, Option, IfSome, Result, Ok, Err, IsTrue, string_bytes, ⊤}
+use Rattle.ports.specs.Outside.{Files, IsNotHeld, Rose}
+use Rattle.topo_cli.specs.Files.{IsLongFile}
+use Rattle.topo_cli.specs.Tables.{Ending, IsNeeded}
+use Rattle.plane_model.specs.Rows.{Rows}
+use Rattle.plane_model.specs.Rotation.{is_rotation_system}
+use Rattle.rotation_check.specs.Darts.{RotationRows}
+use Rattle.rotation_check.specs.declared.checks.CheckFault.{CheckFault}
+use Rattle.rotation_check.specs.declared.checks.CheckFault.TheVariants as check
+use Rattle.topo_csv.specs.declared.fault.CsvFault.{CsvFault}
+use Rattle.topo_csv.specs.declared.fault.CsvFault.TheVariants as csv
+use Rattle.topo_cli.specs.declared.load.LoadFault.{LoadFault}
+use Rattle.topo_cli.specs.declared.load.LoadFault.TheVariants as fault
+
+-- this is what was met, where that is no want of memory and no failed read
+abbrev pub IsEnding : {A : Type 0} → LoadFault → Result A Ending → Type 0
+IsEnding (fault.Missing name) read = read ≡ Err (Ending.Missing (string_bytes name))
+IsEnding fault.ReadFault read = ⊤
+IsEnding fault.TooLong read = read ≡ Err Ending.Long
+IsEnding (fault.Refused e) read = read ≡ Err (Ending.Refused e)
+IsEnding fault.Memory read = ⊤
+
+-- the same, where the files are told
+abbrev pub Ends : {A : Type 0} → Option Files → (Files → Result A Ending) → LoadFault → Type 0
+Ends files read e = IfSome files (λ held. IsEnding e (read held))
+
+-- the count that shows it rose
+abbrev pub IsShown : LoadFault → ℕ → ℕ → ℕ → ℕ → Type 0
+IsShown (fault.Missing name) misses misses' faults faults' = Rose misses misses'
+IsShown fault.ReadFault misses misses' faults faults' = Rose faults faults'
+IsShown fault.TooLong misses misses' faults faults' = ⊤
+IsShown (fault.Refused e) misses misses' faults faults' = ⊤
+IsShown fault.Memory misses misses' faults faults' = ⊤
+
+-- what is missing is this name
+abbrev pub NamesOnly : List ℕ → LoadFault → Type 0
+NamesOnly name (fault.Missing named) = string_bytes named ≡ name
+NamesOnly name e = ⊤
+
+-- what is missing is one of the names that a folder needs
+abbrev pub NamesNeeded : List ℕ → LoadFault → Type 0
+NamesNeeded dir (fault.Missing name) = IsNeeded dir (string_bytes name)
+NamesNeeded dir e = ⊤
+
+-- the fault of reading rows, as one of loading
+abbrev pub IsSame : CsvFault → LoadFault → Type 0
+IsSame (csv.Refused why) e = e ≡ fault.Refused why
+IsSame csv.Memory e = e ≡ fault.Memory
+
+-- no rows were read yet
+abbrev pub StopsReading : LoadFault → Type 0
+StopsReading fault.ReadFault = ⊤
+StopsReading fault.Memory = ⊤
+StopsReading e = ⊥
+
+-- a file that is not held, or is too long
+abbrev pub IsStopped : Option Files → List ℕ → LoadFault → Type 0
+IsStopped files name (fault.Missing named) = IsNotHeld files name
+IsStopped files name fault.TooLong = IsLongFile files name
+IsStopped files name e = StopsReading e
+
+-- the fault of a check, as one of loading
+abbrev pub IsSameCheck : CheckFault → LoadFault → Type 0
+IsSameCheck (check.Refused why) e = e ≡ fault.Refused why
+IsSameCheck check.Memory e = e ≡ fault.Memory
+
+-- the tables are a rotation system, and the rotation has their nodes and edges
+pub record IsMapOf (rotation : RotationRows) (t : Rows) : Type 0 where
+  pub system : IsTrue (is_rotation_system t)
+  pub nodes : rotation.nodes ≡ t.nodes
+  pub edges : rotation.edges ≡ t.edges
+
+abbrev pub Serves : RotationRows → Result Rows Ending → Type 0
+Serves rotation (Ok t) = IsMapOf rotation t
+Serves rotation (Err e) = ⊥

@@ -1,0 +1,196 @@
+//! Loading the tables of a folder.
+
+ghost use Rattle.std.specs.Prelude.{◌≡◌, ◌≤◌, ◌++◌, IfOk, IfErr, IfSome, IsTrue, Ok, codes, length, string_bytes, true, ◌&&◌};
+ghost use Rattle.std.specs.List.{list_all};
+ghost use Rattle.ports.specs.Outside.{Files, Rose};
+ghost use Rattle.plane_model.specs.InRange.{is_edge_in_range, is_face_id, is_id, is_in_range, is_none_or};
+ghost use Rattle.plane_model.specs.Reading.{edge_rows, face_rows, node_rows};
+ghost use Rattle.plane_model.specs.Rows.{rows_of};
+ghost use Rattle.topo_cli.specs.Files.{IsWhole};
+ghost use Rattle.topo_cli.specs.Loading.{Ends, Serves, IsShown, IsStopped, NamesNeeded, NamesOnly};
+ghost use Rattle.topo_cli.specs.Limits.{most_bytes};
+ghost use Rattle.topo_cli.specs.Tables.{loaded, served, table};
+ghost use Rattle.topo_cli.specs.Words.{edge_table, face_table, node_table};
+
+use crate::explicit::ExplicitMap;
+use crate::files::{FileFault, read_file};
+use bit_words::Memory;
+use plane_model::{EdgeRow, FaceRow, NodeRow, Tables};
+use ports::Shelf;
+use rotation_check::{CheckFault, check};
+use std::alloc::{AllocError, Global};
+use topo_base::Refusal;
+use topo_csv::{CsvFault, read_edges, read_faces, read_nodes};
+
+/// Why the tables of a folder can't be loaded.
+#[derive(Debug, Drop)]
+pub enum LoadFault {
+    /// No file is held under this name.
+    Missing(String),
+    /// A read failed.
+    ReadFault,
+    /// A table has more bytes than the limit.
+    TooLong,
+    /// What is first wrong with the tables.
+    Refused(Refusal),
+    /// An allocation failed.
+    Memory,
+}
+
+impl From<AllocError> for LoadFault {
+    ghost use Rattle.std.specs.Prelude.{◌≡◌};
+    ghost use Rattle.topo_cli.specs.declared.load.LoadFault.TheVariants.{Memory};
+
+    ghost from_gives = { λ _ e. e ≡ Memory };
+
+    fn from(_error: AllocError) -> LoadFault {
+        LoadFault::Memory
+    }
+}
+
+impl From<CsvFault> for LoadFault {
+    ghost use Rattle.topo_cli.specs.Loading.{IsSame};
+
+    ghost from_gives = { IsSame };
+
+    fn from(fault: CsvFault) -> LoadFault {
+        match fault {
+            CsvFault::Refused(why) => LoadFault::Refused(why),
+            CsvFault::Memory => LoadFault::Memory,
+        }
+    }
+}
+
+impl From<CheckFault> for LoadFault {
+    ghost use Rattle.topo_cli.specs.Loading.{IsSameCheck};
+
+    ghost from_gives = { IsSameCheck };
+
+    fn from(fault: CheckFault) -> LoadFault {
+        match fault {
+            CheckFault::Refused(why) => LoadFault::Refused(why),
+            CheckFault::Memory => LoadFault::Memory,
+        }
+    }
+}
+
+impl From<Memory> for LoadFault {
+    ghost from_gives = { λ _ e. e ≡ NoMemory };
+
+    ghost use Rattle.std.specs.Prelude.{◌≡◌};
+    ghost use Rattle.topo_cli.specs.declared.load.LoadFault.TheVariants.{Memory as NoMemory};
+
+    fn from(_memory: Memory) -> LoadFault {
+        LoadFault::Memory
+    }
+}
+
+/// The bytes of a needed table.
+fn held_bytes<H: Shelf>(alloc: Global, shelf: &mut H, name: String) -> Result<Vec<u8>, LoadFault>
+    ensures whole { IfOk result (λ bytes. IsWhole (H.files shelf.old) (string_bytes name) bytes.items) }
+    ensures short { IfOk result (λ bytes. length bytes.items ≤ most_bytes) }
+    ensures named { IfErr result (NamesOnly (string_bytes name)) }
+    ensures stopped { IfErr result (IsStopped (H.files shelf.old) (string_bytes name)) }
+    ensures shown { IfErr result (λ e. IsShown e (H.misses shelf.old) (H.misses shelf.new) (H.faults shelf.old) (H.faults shelf.new)) }
+    ensures kept { H.files shelf.new ≡ H.files shelf.old }
+    ensures never_falls { H.faults shelf.old ≤ H.faults shelf.new }
+    ensures misses_never_fall { H.misses shelf.old ≤ H.misses shelf.new }
+{
+    match read_file(alloc, shelf, name.as_str()) {
+        Ok(bytes) => Ok(bytes),
+        Err(FileFault::Missing) => Err(LoadFault::Missing(name)),
+        Err(FileFault::Failed) => Err(LoadFault::ReadFault),
+        Err(FileFault::TooLong) => Err(LoadFault::TooLong),
+        Err(FileFault::Memory) => Err(LoadFault::Memory),
+    }
+}
+
+/// The rows of a folder's node table.
+fn load_nodes<H: Shelf>(alloc: Global, shelf: &mut H, dir: &str) -> Result<Vec<NodeRow>, LoadFault>
+    ensures rows { IfOk result (λ rows. IfSome (H.files shelf.old) (λ files. table node_rows files (node_table dir.now) ≡ Ok rows.items)) }
+    ensures in_range { IfOk result (λ rows. IsTrue (list_all (λ r. is_id r.id && is_none_or is_face_id r.face) rows.items)) }
+    ensures few { IfOk result (λ rows. length rows.items ≤ 16_777_216) }
+    ensures ends { IfErr result (Ends (H.files shelf.old) (λ files. table node_rows files (node_table dir.now))) }
+    ensures named { IfErr result (NamesOnly (node_table dir.now)) }
+    ensures shown { IfErr result (λ e. IsShown e (H.misses shelf.old) (H.misses shelf.new) (H.faults shelf.old) (H.faults shelf.new)) }
+    ensures kept { H.files shelf.new ≡ H.files shelf.old }
+    ensures never_falls { H.faults shelf.old ≤ H.faults shelf.new }
+    ensures misses_never_fall { H.misses shelf.old ≤ H.misses shelf.new }
+{
+    let name = format!(in alloc; "{dir}/node.csv")?;
+    let bytes = held_bytes(alloc, shelf, name)?;
+    Ok(read_nodes(alloc, &bytes)?)
+}
+
+/// The rows of a folder's edge table.
+fn load_edges<H: Shelf>(alloc: Global, shelf: &mut H, dir: &str) -> Result<Vec<EdgeRow>, LoadFault>
+    ensures rows { IfOk result (λ rows. IfSome (H.files shelf.old) (λ files. table edge_rows files (edge_table dir.now) ≡ Ok rows.items)) }
+    ensures in_range { IfOk result (λ rows. IsTrue (list_all is_edge_in_range rows.items)) }
+    ensures few { IfOk result (λ rows. length rows.items ≤ 16_777_216) }
+    ensures ends { IfErr result (Ends (H.files shelf.old) (λ files. table edge_rows files (edge_table dir.now))) }
+    ensures named { IfErr result (NamesOnly (edge_table dir.now)) }
+    ensures shown { IfErr result (λ e. IsShown e (H.misses shelf.old) (H.misses shelf.new) (H.faults shelf.old) (H.faults shelf.new)) }
+    ensures kept { H.files shelf.new ≡ H.files shelf.old }
+    ensures never_falls { H.faults shelf.old ≤ H.faults shelf.new }
+    ensures misses_never_fall { H.misses shelf.old ≤ H.misses shelf.new }
+{
+    let name = format!(in alloc; "{dir}/edge.csv")?;
+    let bytes = held_bytes(alloc, shelf, name)?;
+    Ok(read_edges(alloc, &bytes)?)
+}
+
+/// The rows of a folder's face table.
+fn load_faces<H: Shelf>(alloc: Global, shelf: &mut H, dir: &str) -> Result<Vec<FaceRow>, LoadFault>
+    ensures rows { IfOk result (λ rows. IfSome (H.files shelf.old) (λ files. table face_rows files (face_table dir.now) ≡ Ok rows.items)) }
+    ensures in_range { IfOk result (λ rows. IsTrue (list_all (λ r. is_face_id r.id) rows.items)) }
+    ensures few { IfOk result (λ rows. length rows.items ≤ 16_777_216) }
+    ensures ends { IfErr result (Ends (H.files shelf.old) (λ files. table face_rows files (face_table dir.now))) }
+    ensures named { IfErr result (NamesOnly (face_table dir.now)) }
+    ensures shown { IfErr result (λ e. IsShown e (H.misses shelf.old) (H.misses shelf.new) (H.faults shelf.old) (H.faults shelf.new)) }
+    ensures kept { H.files shelf.new ≡ H.files shelf.old }
+    ensures never_falls { H.faults shelf.old ≤ H.faults shelf.new }
+    ensures misses_never_fall { H.misses shelf.old ≤ H.misses shelf.new }
+{
+    let name = format!(in alloc; "{dir}/face.csv")?;
+    let bytes = held_bytes(alloc, shelf, name)?;
+    Ok(read_faces(alloc, &bytes)?)
+}
+
+/// The tables of a folder, in range; it has no regions yet.
+pub fn load_tables<H: Shelf>(alloc: Global, shelf: &mut H, dir: &str) -> Result<Tables, LoadFault>
+    ensures loaded { IfOk result (λ tables. IfSome (H.files shelf.old) (λ files. loaded files dir.now ≡ Ok (rows_of tables))) }
+    ensures in_range { IfOk result (λ tables. IsTrue (is_in_range (rows_of tables))) }
+    ensures ends { IfErr result (Ends (H.files shelf.old) (λ files. loaded files dir.now)) }
+    ensures named { IfErr result (NamesNeeded dir.now) }
+    ensures shown { IfErr result (λ e. IsShown e (H.misses shelf.old) (H.misses shelf.new) (H.faults shelf.old) (H.faults shelf.new)) }
+    ensures kept { H.files shelf.new ≡ H.files shelf.old }
+    ensures never_falls { H.faults shelf.old ≤ H.faults shelf.new }
+    ensures misses_never_fall { H.misses shelf.old ≤ H.misses shelf.new }
+{
+    let nodes = load_nodes(alloc, shelf, dir)?;
+    let edges = load_edges(alloc, shelf, dir)?;
+    let faces = load_faces(alloc, shelf, dir)?;
+    Ok(Tables {
+        nodes,
+        edges,
+        faces,
+        regions: Vec::new(alloc),
+        members: Vec::new(alloc),
+    })
+}
+
+/// The map of a folder whose tables are a rotation system.
+pub fn load_map<H: Shelf>(alloc: Global, shelf: &mut H, dir: &str) -> Result<ExplicitMap, LoadFault>
+    ensures served { IfOk result (λ map. IfSome (H.files shelf.old) (λ files. Serves map (served files dir.now))) }
+    ensures ends { IfErr result (Ends (H.files shelf.old) (λ files. served files dir.now)) }
+    ensures named { IfErr result (NamesNeeded dir.now) }
+    ensures shown { IfErr result (λ e. IsShown e (H.misses shelf.old) (H.misses shelf.new) (H.faults shelf.old) (H.faults shelf.new)) }
+    ensures kept { H.files shelf.new ≡ H.files shelf.old }
+    ensures never_falls { H.faults shelf.old ≤ H.faults shelf.new }
+    ensures misses_never_fall { H.misses shelf.old ≤ H.misses shelf.new }
+{
+    let tables = load_tables(alloc, shelf, dir)?;
+    let rotation = check(alloc, &tables)?;
+    let map = ExplicitMap::new(alloc, rotation, &tables.nodes)?;
+    Ok(map)
+}

@@ -1,0 +1,387 @@
+//! Whole runs over tables and scripts, with answers from outside.
+
+ghost use Rattle.std.specs.Prelude.{◌≡◌, ◌<◌, ◌≤◌};
+
+use crate::{Status, run};
+use bit_words::Steps;
+use ports::{
+    FileShelf, MemoryShelf, MemorySink, MemorySource, Shelf, Sink, Source, StdSink, StdSource,
+};
+use std::alloc::{AllocError, Global};
+use std::fs;
+use std::marker::Brand;
+use std::sync::ledger::{Blank, Ledger};
+use std::test::Fail;
+
+/// The node, edge and face tables of a folder; the last may be missing.
+#[derive(Clone, Copy)]
+struct Folder {
+    nodes: &'static str,
+    edges: &'static str,
+    faces: Option<&'static str>,
+}
+
+/// What a script over a folder has to end in.
+#[derive(Clone, Copy)]
+struct Case {
+    shows: &'static str,
+    folder: Folder,
+    script: &'static [u8],
+    status: Status,
+    out: &'static str,
+}
+
+const TRIANGLE: Folder = Folder {
+    nodes: "node_id,containing_face\n1,\n2,\n3,\n",
+    edges: "edge_id,start_node,end_node,next_left_edge,next_right_edge,left_face,right_face\n\
+            1,1,2,2,-3,1,0\n2,2,3,3,-1,1,0\n3,3,1,1,-2,1,0\n",
+    faces: Some("face_id\n0\n1\n"),
+};
+
+const CASES: [Case; 20] = [
+    Case {
+        shows: "rings of the triangle",
+        folder: TRIANGLE,
+        script: b"ring 1\nring -2\nring 9\nface 1\n",
+        status: Status::Done,
+        out: "ring 1: 1 2 3\nring -2: -2 -1 -3\nring 9: unknown\nbad\n",
+    },
+    Case {
+        shows: "nodes, nexts, ends and sides of the triangle",
+        folder: TRIANGLE,
+        script: b"node 1\nnode 2\nnode 3\nnext -1\nends -1\nsides 1\n",
+        status: Status::Done,
+        out: "node 1: 1 -3\nnode 2: -1 2\nnode 3: -2 3\nnext -1: -3\nends -1: 2 1\nsides 1: 1 0\n",
+    },
+    Case {
+        shows: "rounds go clockwise from the smallest",
+        folder: Folder {
+            nodes: "node_id,containing_face\n1,\n2,\n",
+            edges: "edge_id,start_node,end_node,next_left_edge,next_right_edge,left_face,right_face\n\
+            1,1,2,-3,2,0,1\n2,1,2,-1,3,1,2\n3,1,2,-2,1,2,0\n",
+            faces: Some("face_id\n1\n2\n"),
+        },
+        script: b"node 1\nnode 2\nring -3\n",
+        status: Status::Done,
+        out: "node 1: 1 2 3\nnode 2: -1 -3 -2\nring -3: -3 1\n",
+    },
+    Case {
+        shows: "an isolated node and a closed edge in a face",
+        folder: Folder {
+            nodes: "node_id,containing_face\n1,\n2,\n3,\n4,\n5,2\n",
+            edges: "edge_id,start_node,end_node,next_left_edge,next_right_edge,left_face,right_face\n\
+            1,1,2,2,-3,1,0\n2,2,3,3,-1,1,0\n3,3,1,1,-2,1,0\n4,4,4,4,-4,2,1\n",
+            faces: Some("face_id\n0\n1\n2\n"),
+        },
+        script: b"node 5\nnode 4\nring -4\nsides 4\n",
+        status: Status::Done,
+        out: "node 5:\nnode 4: 4 -4\nring -4: -4\nsides 4: 2 1\n",
+    },
+    Case {
+        shows: "the columns of edge_data, in another order, all in quotes, with CR LF",
+        folder: Folder {
+            edges: "\"geom\",\"right_face\",\"edge_id\",\"start_node\",\"end_node\",\"next_left_edge\",\"abs_next_left_edge\",\"next_right_edge\",\"abs_next_right_edge\",\"left_face\"\r\n\
+            \"0102\",\"0\",\"1\",\"1\",\"2\",\"2\",\"2\",\"-3\",\"3\",\"1\"\r\n\
+            \"0102\",\"0\",\"2\",\"2\",\"3\",\"3\",\"3\",\"-1\",\"1\",\"1\"\r\n\
+            \"\",\"0\",\"3\",\"3\",\"1\",\"1\",\"1\",\"-2\",\"2\",\"1\"\r\n",
+            faces: Some("mbr,face_id\r\n0103,0\r\n,1\r\n"),
+            ..TRIANGLE
+        },
+        script: b"ring 1\nnode 1\nnode 2\nnode 3\nnext -1\nends -1\nsides 1\n",
+        status: Status::Done,
+        out: "ring 1: 1 2 3\nnode 1: 1 -3\nnode 2: -1 2\nnode 3: -2 3\nnext -1: -3\nends -1: 2 1\nsides 1: 1 0\n",
+    },
+    Case {
+        shows: "lines that are no query, and a last line without a line feed",
+        folder: TRIANGLE,
+        script: b"\n# x\nnode 99\nnode x\nnode 0\naaaaaaaaaaaaaaaaaaaaaaaaaaaaaaaaaaaaaaaaaaaaaaaaaaaaaaaaaaaaaaaaaaaaaaaaaaaaaaaaaaaaaaaaaaaaaaaaaaaaaaaaaaaaaaaaaaaaaaaaaaaaaaaaaaaaaaaaaaaaaaaaaaaaaaaaaaaaaaaaaaaaaaaaaaaaaaaaaaaaaaaaaaaaaaaaaaaaaaaaaaaaaaaaaaaaaaaaaaaaaaaaaaaaaaaaaaaaaaaaaaaaaaaaaaaaaaaa\n\xff\nring 1 \nnext 1",
+        status: Status::Done,
+        out: "node 99: unknown\nbad\nbad\nlong\nbad\nbad\nnext 1: 2\n",
+    },
+    Case {
+        shows: "an empty script",
+        folder: TRIANGLE,
+        script: b"",
+        status: Status::Done,
+        out: "",
+    },
+    Case {
+        shows: "the greatest id",
+        folder: Folder {
+            nodes: "node_id,containing_face\n1,\n",
+            edges: "edge_id,start_node,end_node,next_left_edge,next_right_edge,left_face,right_face\n\
+            2147483647,1,1,2147483647,-2147483647,1,0\n",
+            ..TRIANGLE
+        },
+        script: b"ring -2147483647\nring 2147483648\n",
+        status: Status::Done,
+        out: "ring -2147483647: -2147483647\nbad\n",
+    },
+    Case {
+        shows: "an id that is too great",
+        folder: Folder {
+            nodes: "node_id,containing_face\n1,\n",
+            edges: "edge_id,start_node,end_node,next_left_edge,next_right_edge,left_face,right_face\n\
+            2147483648,1,1,1,-1,1,0\n",
+            ..TRIANGLE
+        },
+        script: b"ring 1\n",
+        status: Status::TablesRefused,
+        out: "refused F4 table=edge row=1 column=edge_id\n",
+    },
+    Case {
+        shows: "a missing column",
+        folder: Folder {
+            edges: "edge_id\n",
+            ..TRIANGLE
+        },
+        script: b"ring 1\n",
+        status: Status::TablesRefused,
+        out: "refused F1 table=edge column=start_node\n",
+    },
+    Case {
+        shows: "an empty end node",
+        folder: Folder {
+            edges: "edge_id,start_node,end_node,next_left_edge,next_right_edge,left_face,right_face\n\
+            1,1,2,2,-3,1,0\n2,2,,3,-1,1,0\n",
+            ..TRIANGLE
+        },
+        script: b"ring 1\n",
+        status: Status::TablesRefused,
+        out: "refused F5 table=edge row=2 column=end_node\n",
+    },
+    Case {
+        shows: "two rows for a node",
+        folder: Folder {
+            nodes: "node_id,containing_face\n1,\n2,\n3,\n2,\n",
+            ..TRIANGLE
+        },
+        script: b"ring 1\n",
+        status: Status::TablesRefused,
+        out: "refused F7 table=node id=2\n",
+    },
+    Case {
+        shows: "two rows for an edge",
+        folder: Folder {
+            edges: "edge_id,start_node,end_node,next_left_edge,next_right_edge,left_face,right_face\n\
+            1,1,2,2,-3,1,0\n2,2,3,3,-1,1,0\n2,3,1,1,-2,1,0\n",
+            ..TRIANGLE
+        },
+        script: b"ring 1\n",
+        status: Status::TablesRefused,
+        out: "refused F7 table=edge id=2\n",
+    },
+    Case {
+        shows: "a face without a row",
+        folder: Folder {
+            edges: "edge_id,start_node,end_node,next_left_edge,next_right_edge,left_face,right_face\n\
+            1,1,2,2,-3,1,0\n2,2,3,3,-1,1,0\n3,3,1,1,-2,7,0\n",
+            ..TRIANGLE
+        },
+        script: b"ring 1\n",
+        status: Status::TablesRefused,
+        out: "refused F10 table=edge id=3 face=7\n",
+    },
+    Case {
+        shows: "a next that does not leave the head",
+        folder: Folder {
+            edges: "edge_id,start_node,end_node,next_left_edge,next_right_edge,left_face,right_face\n\
+            1,1,2,3,-3,1,0\n2,2,3,3,-1,1,0\n3,3,1,1,-2,1,0\n",
+            ..TRIANGLE
+        },
+        script: b"ring 1\n",
+        status: Status::TablesRefused,
+        out: "refused F11 edge=1 next=3\n",
+    },
+    Case {
+        shows: "a signed edge that is the next of two",
+        folder: Folder {
+            nodes: "node_id,containing_face\n1,\n",
+            edges: "edge_id,start_node,end_node,next_left_edge,next_right_edge,left_face,right_face\n\
+            1,1,1,1,-1,0,0\n2,1,1,1,-2,0,0\n",
+            ..TRIANGLE
+        },
+        script: b"ring 1\n",
+        status: Status::TablesRefused,
+        out: "refused F12 next=1\n",
+    },
+    Case {
+        shows: "a node with two rounds",
+        folder: Folder {
+            nodes: "node_id,containing_face\n1,\n",
+            edges: "edge_id,start_node,end_node,next_left_edge,next_right_edge,left_face,right_face\n\
+            1,1,1,1,-1,0,0\n2,1,1,2,-2,0,0\n",
+            ..TRIANGLE
+        },
+        script: b"ring 1\n",
+        status: Status::TablesRefused,
+        out: "refused F13 node=1\n",
+    },
+    Case {
+        shows: "a node with edges that names a face",
+        folder: Folder {
+            nodes: "node_id,containing_face\n1,0\n2,\n3,\n",
+            ..TRIANGLE
+        },
+        script: b"ring 1\n",
+        status: Status::TablesRefused,
+        out: "refused F14 node=1\n",
+    },
+    Case {
+        shows: "the node table is read before the face table is missed",
+        folder: Folder {
+            nodes: "node_id\n1\n",
+            faces: None,
+            ..TRIANGLE
+        },
+        script: b"ring 1\n",
+        status: Status::TablesRefused,
+        out: "refused F1 table=node column=containing_face\n",
+    },
+    Case {
+        shows: "no face table",
+        folder: Folder {
+            faces: None,
+            ..TRIANGLE
+        },
+        script: b"ring 1\n",
+        status: Status::Missing,
+        out: "missing maps/face.csv\n",
+    },
+];
+
+/// The words of the first command.
+fn ask_words(alloc: Global, folder: &str) -> Result<Vec<String>, AllocError> {
+    let ask = String::from_str(alloc, "ask")?;
+    let folder = String::from_str(alloc, folder)?;
+    Ok(vec![in alloc; ask, folder]?)
+}
+
+/// A run of `ask` over these objects.
+fn ask<H: Shelf, S: Source, K: Sink, L: Ledger>(
+    alloc: Global,
+    folder: &str,
+    shelf: &mut H,
+    script: &mut S,
+    out: &mut K,
+    steps: &mut Steps<L>,
+) -> Result<Status, AllocError> {
+    let words = ask_words(alloc, folder)?;
+    Ok(run(alloc, &words, shelf, script, out, steps))
+}
+
+/// A shelf that holds a folder's tables under `maps`.
+fn shelf_of<'a>(
+    alloc: Global,
+    folder: &Folder,
+    failing: &'a [u64],
+) -> Result<MemoryShelf<'a>, Fail> {
+    let mut shelf = MemoryShelf::new(alloc, failing);
+    shelf.add("maps/node.csv", folder.nodes.as_bytes())?;
+    shelf.add("maps/edge.csv", folder.edges.as_bytes())?;
+    if let Some(faces) = folder.faces {
+        shelf.add("maps/face.csv", faces.as_bytes())?;
+    }
+    Ok(shelf)
+}
+
+/// Whether a case ends as it has to.
+fn ends_well<L: Ledger>(alloc: Global, case: &Case, steps: &mut Steps<L>) -> Result<bool, Fail> {
+    let mut shelf = shelf_of(alloc, &case.folder, &[])?;
+    let mut script = MemorySource::new(case.script, 7, &[]);
+    let mut out = MemorySink::new(alloc, &[]);
+    let status = ask(alloc, "maps", &mut shelf, &mut script, &mut out, steps)?;
+    Ok(status == case.status && out.bytes() == case.out.as_bytes())
+}
+
+/// What the first case shows that doesn't end as it has to.
+fn first_wrong<L: Ledger>(alloc: Global, blank: Blank) -> Result<Option<&'static str>, Fail>
+    requires name { blank.name ≡ L.name }
+    requires parts { blank.parts ≡ L.parts }
+    requires some { 0 < blank.parts }
+{
+    let mut steps = Steps::<L>::new(blank);
+    for case in &CASES {
+        if !ends_well(alloc, case, &mut steps)? {
+            return Ok(Some(case.shows));
+        }
+    }
+    Ok(None)
+}
+
+#[test]
+fn scripts_over_folders_end_as_they_have_to(rt: HostRuntime) -> Result<(), Fail> {
+    let wrong = first_wrong::<Brand>(rt.alloc(), Blank::new(1))?;
+    assert_eq!(rt; wrong, None);
+    Ok(())
+}
+
+/// How a run over the triangle ends whose shelf, script or output fails at some call, and how much it wrote.
+fn ends_failing<L: Ledger>(
+    alloc: Global,
+    shelf: &[u64],
+    script: &[u64],
+    out: &[u64],
+    blank: Blank,
+) -> Result<(Status, usize), Fail>
+    requires name { blank.name ≡ L.name }
+    requires parts { blank.parts ≡ L.parts }
+    requires some { 0 < blank.parts }
+{
+    let mut shelf = shelf_of(alloc, &TRIANGLE, shelf)?;
+    let mut script = MemorySource::new(b"ring 1\nring 2\n", 7, script);
+    let mut out = MemorySink::new(alloc, out);
+    let mut steps = Steps::<L>::new(blank);
+    let status = ask(alloc, "maps", &mut shelf, &mut script, &mut out, &mut steps)?;
+    Ok((status, out.bytes().len()))
+}
+
+#[test]
+fn faults_of_the_outside_end_the_run(rt: HostRuntime) -> Result<(), Fail> {
+    let alloc = rt.alloc();
+    let shelf = ends_failing::<Brand>(alloc, &[4], &[], &[], Blank::new(1))?;
+    assert_eq!(rt; shelf, (Status::ReadFault, 0));
+    let script = ends_failing::<Brand>(alloc, &[], &[2], &[], Blank::new(1))?;
+    assert_eq!(rt; script, (Status::ReadFault, 0));
+    let out = ends_failing::<Brand>(alloc, &[], &[], &[1], Blank::new(1))?;
+    assert_eq!(rt; out, (Status::WriteFault, 14));
+    Ok(())
+}
+
+const FOLDER: &str = "topo_cli_test_folder";
+
+/// The triangle's answer from a folder of the system.
+fn answers_from_files<L: Ledger>(rt: &HostRuntime, blank: Blank) -> Result<(Status, Vec<u8>), Fail>
+    requires name { blank.name ≡ L.name }
+    requires parts { blank.parts ≡ L.parts }
+    requires some { 0 < blank.parts }
+{
+    let mut shelf = FileShelf::new(rt);
+    let mut script = StdSource::new(b"ring 1\nring -2\nring 9\nface 1\n".as_slice());
+    let mut out = StdSink::new(Vec::new(rt.alloc()));
+    let mut steps = Steps::<L>::new(blank);
+    let status = ask(
+        rt.alloc(),
+        FOLDER,
+        &mut shelf,
+        &mut script,
+        &mut out,
+        &mut steps,
+    )?;
+    Ok((status, out.into_inner()))
+}
+
+#[test]
+fn files_of_the_system_are_answered(rt: HostRuntime) -> Result<(), Fail> {
+    let _ = fs::remove_dir_all(&rt, FOLDER);
+    fs::create_dir(&rt, FOLDER)?;
+    fs::write(&rt, "topo_cli_test_folder/node.csv", TRIANGLE.nodes)?;
+    fs::write(&rt, "topo_cli_test_folder/edge.csv", TRIANGLE.edges)?;
+    fs::write(&rt, "topo_cli_test_folder/face.csv", "face_id\n0\n1\n")?;
+    let (status, out) = answers_from_files::<Brand>(&rt, Blank::new(1))?;
+    fs::remove_dir_all(&rt, FOLDER)?;
+    assert_eq!(rt; status, Status::Done);
+    let wanted = b"ring 1: 1 2 3\nring -2: -2 -1 -3\nring 9: unknown\nbad\n";
+    assert_eq!(rt; out.as_slice(), wanted.as_slice());
+    Ok(())
+}
