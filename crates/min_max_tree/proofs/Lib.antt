@@ -1,0 +1,10 @@
+pub mod Falls
+pub mod Nodes
+pub mod Levels
+pub mod Climb
+pub mod Combine
+pub mod Rises
+pub mod Sizes
+pub mod Runs
+pub mod Builds
+pub mod Backs

@@ -1,0 +1,10 @@
+use Rattle.std.proofs.Common.{◌≡◌, ◌+◌, ◌-◌}
+use Rattle.bit_words.specs.BitView.{bits_of}
+use Rattle.min_max_tree.specs.Node.{IsRun}
+use Rattle.min_max_tree.proofs.verify.run_seen.Given as goal
+
+abbrev pub invariant-loop-i : goal.invariant-loop-i
+invariant-loop-i g l = record {
+  run : IsRun (bits_of l.bits) l.from l.i l.run;
+  steps : l.steps ≡ l.initial.steps + (l.i - l.from);
+}

@@ -1,0 +1,20 @@
+//! The nearest place where an excess has fallen, by a tree of least excesses.
+//!
+//! The excess at a place is the ones less the zeros before it. The tree has a word for each block of 512 bits and,
+//! level by level above, for each two words below it: what its bits sum to in the low 32 bits, and the least that a
+//! front of them sums to in the high 32, both in two's complement.
+#![tactic(auto)]
+
+mod build;
+mod level;
+mod node;
+mod scan;
+mod tree;
+mod verify;
+
+pub use build::make;
+pub use tree::MinMaxView;
+pub use verify::{check, node_count};
+
+#[cfg(test)]
+mod tests;

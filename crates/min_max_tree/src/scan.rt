@@ -1,0 +1,159 @@
+ghost use Rattle.std.specs.Prelude.{◌≡◌, ◌≤◌, ◌+◌, ◌-◌, ◌*◌, ◌/◌, ◌%◌, true, length};
+ghost use Rattle.bit_words.specs.Bits.{excess, rank};
+ghost use Rattle.bit_words.specs.BitView.{bits_of};
+ghost use Rattle.min_max_tree.specs.Search.{Scanned};
+ghost use Rattle.min_max_tree.specs.SearchBack.{ScannedBack};
+
+use bit_words::{BitView, Steps, first_excess, last_excess, ones_below};
+use std::sync::ledger::Ledger;
+
+/// The place where the excess is reached, or how far above it the last place is.
+#[derive(Clone, Copy)]
+pub(crate) enum Scan {
+    Found(usize),
+    Above(u64),
+}
+
+/// Looks at the bits of one word, from `from` to before `to`.
+pub(crate) fn scan_word<C: Ledger>(
+    bits: &BitView<'_>,
+    from: usize,
+    to: usize,
+    need: u64,
+    steps: &mut Steps<C>,
+) -> Scan
+    requires few { length (bits_of bits.now) ≤ 2147483647 }
+    requires some { from + 1 ≤ to }
+    requires within { to ≤ length (bits_of bits.now) }
+    requires one_word { to ≤ 64 * (from / 64 + 1) }
+    requires need { 1 ≤ need }
+    requires small { need ≤ 17179869184 }
+    ensures scanned { Scanned (bits_of bits.now) need from to result }
+    ensures one_step { steps.new ≡ steps.old + 1 }
+{
+    let word = from / 64;
+    let chunk = bits.chunk(word, steps);
+    let low = (from - 64 * word) as u32;
+    let high = (to - 64 * word) as u32;
+    let drop = need.min(65) as u32;
+    match first_excess(chunk, low, high, drop) {
+        Some(place) => Scan::Found(64 * word + place as usize),
+        None => {
+            let ones = ones_below(chunk, high) - ones_below(chunk, low);
+            Scan::Above(need + 2 * ones as u64 - (high - low) as u64)
+        }
+    }
+}
+
+/// Looks at the bits from `from` to before `to`, word by word.
+pub(crate) fn scan_bits<C: Ledger>(
+    bits: &BitView<'_>,
+    from: usize,
+    to: usize,
+    need: u64,
+    steps: &mut Steps<C>,
+) -> Scan
+    requires few { length (bits_of bits.now) ≤ 2147483647 }
+    requires order { from ≤ to }
+    requires within { to ≤ length (bits_of bits.now) }
+    requires need { 1 ≤ need }
+    requires small { need ≤ 8589934592 }
+    ensures scanned { Scanned (bits_of bits.now) need from to result }
+    ensures cost { steps.new ≤ steps.old + ((to + 63) / 64 - from / 64) }
+{
+    let mut at = from;
+    let mut left = need;
+    while at < to {
+        let end = to.min(64 * (at / 64 + 1));
+        match scan_word(bits, at, end, left, steps) {
+            Scan::Found(place) => return Scan::Found(place),
+            Scan::Above(more) => left = more,
+        }
+        at = end;
+    }
+    Scan::Above(left)
+}
+
+/// Looks back at the bits of one word, from `to` down to `from`.
+pub(crate) fn scan_word_back<C: Ledger>(
+    bits: &BitView<'_>,
+    from: usize,
+    to: usize,
+    need: u64,
+    steps: &mut Steps<C>,
+) -> Scan
+    requires few { length (bits_of bits.now) ≤ 2147483647 }
+    requires some { from + 1 ≤ to }
+    requires within { to ≤ length (bits_of bits.now) }
+    requires one_word { to ≤ 64 * (from / 64 + 1) }
+    requires need { 1 ≤ need }
+    requires small { need ≤ 17179869184 }
+    ensures scanned { ScannedBack (bits_of bits.now) need from to result }
+    ensures one_step { steps.new ≡ steps.old + 1 }
+{
+    let word = from / 64;
+    let chunk = bits.chunk(word, steps);
+    let low = (from - 64 * word) as u32;
+    let high = (to - 64 * word) as u32;
+    let drop = need.min(65) as u32;
+    match last_excess(chunk, low, high, drop) {
+        Some(place) => Scan::Found(64 * word + place as usize),
+        None => {
+            let ones = ones_below(chunk, high) - ones_below(chunk, low);
+            Scan::Above(need + (high - low) as u64 - 2 * ones as u64)
+        }
+    }
+}
+
+/// Looks back at the bits from `to` down to `from`, word by word.
+pub(crate) fn scan_bits_back<C: Ledger>(
+    bits: &BitView<'_>,
+    from: usize,
+    to: usize,
+    need: u64,
+    steps: &mut Steps<C>,
+) -> Scan
+    requires few { length (bits_of bits.now) ≤ 2147483647 }
+    requires word { from % 64 ≡ 0 }
+    requires order { from ≤ to }
+    requires within { to ≤ length (bits_of bits.now) }
+    requires need { 1 ≤ need }
+    requires small { need ≤ 8589934592 }
+    ensures scanned { ScannedBack (bits_of bits.now) need from to result }
+    ensures cost { steps.new ≤ steps.old + ((to + 63) / 64 - from / 64) }
+{
+    let mut at = to;
+    let mut left = need;
+    while at > from {
+        let start = 64 * ((at - 1) / 64);
+        match scan_word_back(bits, start, at, left, steps) {
+            Scan::Found(place) => return Scan::Found(place),
+            Scan::Above(more) => left = more,
+        }
+        at = start;
+    }
+    Scan::Above(left)
+}
+
+/// How many ones stand from place `from`, where a word begins, to before place `to`.
+#[tactic(auto, using(crate::proofs::Rises::ones_laws))]
+pub(crate) fn ones_between<C: Ledger>(
+    bits: &BitView<'_>,
+    from: usize,
+    to: usize,
+    steps: &mut Steps<C>,
+) -> u64
+    requires few { length (bits_of bits.now) ≤ 2147483647 }
+    requires order { from ≤ to }
+    requires word { from % 64 ≡ 0 }
+    requires within { to ≤ length (bits_of bits.now) }
+    ensures ones { rank true (bits_of bits.now) from + result ≡ rank true (bits_of bits.now) to }
+    ensures cost { steps.new ≤ steps.old + ((to + 63) / 64 - from / 64) }
+{
+    let mut ones: u64 = 0;
+    for word in from / 64..to.div_ceil(64) {
+        let chunk = bits.chunk(word, steps);
+        ones += ones_below(chunk, (to - 64 * word).min(64) as u32) as u64;
+    }
+    ones
+}

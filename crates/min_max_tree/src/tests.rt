@@ -1,0 +1,212 @@
+ghost use Rattle.std.specs.Prelude.{◌≡◌, ◌<◌, ◌≤◌, length};
+ghost use Rattle.min_max_tree.specs.MinMaxView.{searched};
+
+use crate::{MinMaxView, check, make, node_count};
+use bit_words::{BitMaker, BitView, Steps, WordView, WrongEntry};
+use std::alloc::Global;
+use std::marker::Brand;
+use std::sync::ledger::{Blank, Ledger};
+use std::test::Fail;
+
+/// Bits and their tree, as bytes.
+#[derive(Drop)]
+struct Image {
+    len: usize,
+    bits: Vec<u8>,
+    nodes: Vec<u8>,
+}
+
+/// Which bits are ones.
+#[derive(Clone, Copy, Debug, PartialEq, Eq)]
+enum Pattern {
+    Ones,
+    Zeros,
+    EachThird,
+    FirstHalf,
+}
+
+impl Pattern {
+    fn bits(self, alloc: Global, len: usize) -> Result<Vec<bool>, Fail> {
+        let mut bits = Vec::new(alloc);
+        for i in 0..len {
+            bits.push(match self {
+                Pattern::Ones => true,
+                Pattern::Zeros => false,
+                Pattern::EachThird => i % 3 == 0,
+                Pattern::FirstHalf => i < len / 2,
+            })?;
+        }
+        Ok(bits)
+    }
+}
+
+/// The bytes of these words, the lowest byte of each first.
+fn bytes_of(alloc: Global, words: &[u64]) -> Result<Vec<u8>, Fail> {
+    let mut bytes = Vec::new(alloc);
+    for word in words {
+        bytes.extend_from_slice(&word.to_le_bytes())?;
+    }
+    Ok(bytes)
+}
+
+/// The image of these bits, with the tree that is made.
+fn image_of(alloc: Global, bits: &[bool]) -> Result<Image, Fail>
+    requires { length bits.now ≤ 2147483647 }
+{
+    let mut maker = BitMaker::new(alloc);
+    for bit in bits {
+        maker.push(*bit)?;
+    }
+    let nodes = make(alloc, &maker)?;
+    Ok(Image {
+        len: bits.len(),
+        bits: bytes_of(alloc, maker.finish().as_slice())?,
+        nodes: bytes_of(alloc, nodes.as_slice())?,
+    })
+}
+
+/// The ones less the zeros before each place, and before the end.
+fn plain_excesses(alloc: Global, bits: &[bool]) -> Result<Vec<i64>, Fail> {
+    let mut excesses = Vec::new(alloc);
+    excesses.push(0)?;
+    let mut excess: i64 = 0;
+    for bit in bits {
+        excess = if *bit {
+            excess.wrapping_add(1)
+        } else {
+            excess.wrapping_sub(1)
+        };
+        excesses.push(excess)?;
+    }
+    Ok(excesses)
+}
+
+/// The first place after `i` where the excess is `drop` below that at `i`.
+fn plain_forward(excesses: &[i64], i: usize, drop: u64) -> Option<usize>
+    requires place { i < length excesses.now }
+    requires few { drop ≤ 1000 }
+{
+    let low = excesses[i].wrapping_sub(drop as i64);
+    (i + 1..excesses.len()).find(|place| excesses[*place] == low)
+}
+
+/// The last place before `i` where the excess is `drop` below that at `i`.
+fn plain_backward(excesses: &[i64], i: usize, drop: u64) -> Option<usize>
+    requires place { i < length excesses.now }
+    requires few { drop ≤ 1000 }
+{
+    let low = excesses[i].wrapping_sub(drop as i64);
+    (0..i).rev().find(|place| excesses[*place] == low)
+}
+
+/// Whether each excess and each fall is what plain counting gives.
+fn agrees<C: Ledger>(
+    tree: MinMaxView<'_>,
+    len: usize,
+    excesses: &[i64],
+    steps: &mut Steps<C>,
+) -> bool
+    requires len { length (searched tree) ≡ len }
+    requires few { len ≤ 2147483647 }
+{
+    if excesses.len() != len + 1 {
+        return false;
+    }
+    for i in 0..len + 1 {
+        if tree.excess(i, steps) != excesses[i] {
+            return false;
+        }
+        for drop in 1..8 {
+            if tree.forward(i, drop, steps) != plain_forward(excesses, i, drop) {
+                return false;
+            }
+            if tree.backward(i, drop, steps) != plain_backward(excesses, i, drop) {
+                return false;
+            }
+        }
+    }
+    true
+}
+
+/// Whether the tree of an image agrees with plain counting, or its first wrong word. None where its sizes do not fit.
+fn examined<C: Ledger>(
+    image: &Image,
+    excesses: &[i64],
+    blank: Blank,
+) -> Option<Result<bool, WrongEntry>>
+    requires name { blank.name ≡ C.name }
+    requires parts { blank.parts ≡ C.parts }
+    requires some { 0 < blank.parts }
+{
+    let mut steps = Steps::<C>::new(blank);
+    let words = WordView::new(image.bits.as_slice())?;
+    let nodes = WordView::new(image.nodes.as_slice())?;
+    if image.len > 2147483647 || image.len.div_ceil(64) > words.len() {
+        return None;
+    }
+    if nodes.len() != node_count(image.len) {
+        return None;
+    }
+    let bits = BitView::new(words, image.len);
+    if let Err(wrong) = check(bits, nodes, &mut steps) {
+        return Some(Err(wrong));
+    }
+    let tree = MinMaxView::new(bits, nodes);
+    Some(Ok(agrees(tree, image.len, excesses, &mut steps)))
+}
+
+#[test]
+fn a_zero_and_a_one_have_their_word_and_fall(rt: HostRuntime) -> Result<(), Fail> {
+    let bits = [false, true];
+    let image = image_of(rt.alloc(), &bits)?;
+    assert_eq!(rt;
+        image.nodes.as_slice(),
+        18446744069414584320_u64.to_le_bytes().as_slice()
+    );
+    assert_eq!(rt; plain_forward(&[0, -1, 0], 0, 1), Some(1));
+    assert_eq!(rt; plain_backward(&[0, -1, 0], 2, 1), Some(1));
+    let outcome = examined::<Brand>(&image, &[0, -1, 0], Blank::new(1));
+    assert_eq!(rt; outcome, Some(Ok(true)));
+    Ok(())
+}
+
+#[test]
+fn two_ones_and_two_zeros_have_a_word_of_zero(rt: HostRuntime) -> Result<(), Fail> {
+    let image = image_of(rt.alloc(), &[true, true, false, false])?;
+    assert_eq!(rt; image.nodes.as_slice(), [0, 0, 0, 0, 0, 0, 0, 0].as_slice());
+    Ok(())
+}
+
+#[test]
+fn the_first_wrong_word_is_named(rt: HostRuntime) -> Result<(), Fail> {
+    let mut image = image_of(rt.alloc(), &[true, true, false, false])?;
+    image.nodes = bytes_of(rt.alloc(), &[5])?;
+    let want = WrongEntry {
+        at: 0,
+        want: 0,
+        found: 5,
+    };
+    let outcome = examined::<Brand>(&image, &[], Blank::new(1));
+    assert_eq!(rt; outcome, Some(Err(want)));
+    Ok(())
+}
+
+#[test]
+fn excesses_and_falls_are_those_of_plain_counting(rt: HostRuntime) -> Result<(), Fail> {
+    for len in [0, 511, 512, 513, 1024, 1537] {
+        for pattern in [
+            Pattern::Ones,
+            Pattern::Zeros,
+            Pattern::EachThird,
+            Pattern::FirstHalf,
+        ] {
+            let bits = pattern.bits(rt.alloc(), len)?;
+            assert!(rt; bits.len() <= 2147483647);
+            let image = image_of(rt.alloc(), bits.as_slice())?;
+            let excesses = plain_excesses(rt.alloc(), bits.as_slice())?;
+            let outcome = examined::<Brand>(&image, excesses.as_slice(), Blank::new(1));
+            assert_eq!(rt; outcome, Some(Ok(true)), "{len} bits {pattern:?}");
+        }
+    }
+    Ok(())
+}
