@@ -1,0 +1,12 @@
+use Rattle.std.proofs.Common.{refl}
+use Rattle.id_names.specs.Names.{number_of, is_names}
+use Rattle.id_names.proofs.NameLaws.{names_from_test}
+use Rattle.id_names.proofs.tests.three_names_are_ordered_and_found.Goals as goal
+
+pub make-requires-clause-names : goal.make-requires-clause-names
+unfolding is_names number_of
+make-requires-clause-names g c = names_from_test _ refl
+
+pub image_of-requires-clause-names : goal.image_of-requires-clause-names
+unfolding is_names number_of
+image_of-requires-clause-names g c = names_from_test _ refl
