@@ -1,0 +1,4 @@
+pub mod Walking
+pub mod Numbered
+pub mod Counted
+pub mod Flooding

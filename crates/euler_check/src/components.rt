@@ -1,0 +1,71 @@
+//! The components of a rotation.
+
+ghost use Rattle.std.specs.Prelude.{◌≡◌, ℕ, ◌*◌, ◌<◌, IfOk, IsTrue, None, OnOk, length};
+ghost use Rattle.plane_model.specs.Component.{component, components};
+ghost use Rattle.plane_model.specs.Sets.{has_edge};
+ghost use Rattle.rotation_check.specs.Darts.{IsRotation, map_of_rotation, signed_edge};
+ghost use Rattle.euler_check.specs.Marks.{AreMarked, IsReached, number_at};
+ghost use Rattle.euler_check.specs.Numbers.{AreNumbers};
+
+use crate::marks::{all_numbers, no_numbers};
+use crate::numbering::Numbering;
+use rotation_check::{Rotation, reversed};
+use std::alloc::{AllocError, Global};
+
+/// Gives a dart a number and puts it among the waiting ones, where it has no number.
+fn reach(
+    dart: u32,
+    number: u32,
+    numbers: &mut [Option<u32>],
+    waiting: &mut Vec<u32>,
+) -> Result<(), AllocError>
+    requires { dart < length numbers.old }
+    ensures { OnOk result (IsReached dart number numbers.old numbers.new waiting.old.items waiting.new.items) }
+{
+    if numbers[dart as usize].is_none() {
+        waiting.push(dart)?;
+        numbers[dart as usize] = Some(number);
+    }
+    Ok(())
+}
+
+/// Gives the darts of a component, which have no number, a number.
+fn mark_component(
+    alloc: Global,
+    rotation: &Rotation,
+    first: u32,
+    number: u32,
+    numbers: &mut [Option<u32>],
+) -> Result<(), AllocError>
+    requires rotation { IsRotation rotation.now }
+    requires size { length numbers.old ≡ 2 * length rotation.now.edges }
+    requires first { first < 2 * length rotation.now.edges }
+    requires fresh { (d : ℕ) → d < 2 * length rotation.now.edges → IsTrue (has_edge (component (map_of_rotation rotation.now) (signed_edge rotation.now.edges first)) (signed_edge rotation.now.edges d)) → number_at numbers.old d ≡ None }
+    ensures { OnOk result (AreMarked rotation.now.edges (component (map_of_rotation rotation.now) (signed_edge rotation.now.edges first)) number numbers.old numbers.new) }
+{
+    // darts of the component whose reverse and turn may have no number
+    let mut waiting = Vec::new(alloc);
+    reach(first, number, numbers, &mut waiting)?;
+    while let Some(dart) = waiting.pop() {
+        reach(reversed(dart), number, numbers, &mut waiting)?;
+        reach(rotation.turn(dart), number, numbers, &mut waiting)?;
+    }
+    Ok(())
+}
+
+/// Numbers the components, from 0 by the first dart that belongs to each.
+pub fn number_components(alloc: Global, rotation: &Rotation) -> Result<Numbering, AllocError>
+    ensures numbers { IfOk result (λ numbering. AreNumbers rotation.now.edges (component (map_of_rotation rotation.now)) numbering) }
+    ensures count { IfOk result (λ numbering. numbering.count ≡ length (components (map_of_rotation rotation.now))) }
+{
+    let darts = 2 * rotation.edges();
+    let mut numbers = no_numbers(alloc, darts)?;
+    let mut count = 0;
+    for dart in 0..darts {
+        if numbers[dart as usize].is_none() {
+            mark_component(alloc, rotation, dart, count, &mut numbers)?;
+            count += 1;
+        }
+    }
+    Ok(Numbering::new(count, all_numbers(alloc, &numbers)?))
+}

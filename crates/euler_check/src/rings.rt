@@ -1,0 +1,45 @@
+//! The rings of a rotation.
+
+ghost use Rattle.std.specs.Prelude.{◌≡◌, ◌*◌, ◌<◌, IfOk, length};
+ghost use Rattle.plane_model.specs.PlaneMap.{ring, rings};
+ghost use Rattle.rotation_check.specs.Darts.{map_of_rotation, signed_edge};
+ghost use Rattle.euler_check.specs.Marks.{AreMarked, AreNumbered};
+ghost use Rattle.euler_check.specs.Numbers.{AreNumbers};
+
+use crate::marks::{all_numbers, no_numbers};
+use crate::numbering::Numbering;
+use rotation_check::Rotation;
+use std::alloc::{AllocError, Global};
+
+/// Gives the darts of a ring a number.
+fn mark_ring(rotation: &Rotation, first: u32, number: u32, numbers: &mut [Option<u32>])
+    requires size { length numbers.old ≡ 2 * length rotation.now.edges }
+    requires first { first < 2 * length rotation.now.edges }
+    ensures { AreMarked rotation.now.edges (ring (map_of_rotation rotation.now) (signed_edge rotation.now.edges first)) number numbers.old numbers.new }
+{
+    let mut dart = first;
+    for _ in 0..2 * rotation.edges() {
+        numbers[dart as usize] = Some(number);
+        dart = rotation.next(dart);
+        if dart == first {
+            break;
+        }
+    }
+}
+
+/// Numbers the rings, from 0 by the first dart that belongs to each.
+pub fn number_rings(alloc: Global, rotation: &Rotation) -> Result<Numbering, AllocError>
+    ensures numbers { IfOk result (λ numbering. AreNumbers rotation.now.edges (ring (map_of_rotation rotation.now)) numbering) }
+    ensures count { IfOk result (λ numbering. numbering.count ≡ length (rings (map_of_rotation rotation.now))) }
+{
+    let darts = 2 * rotation.edges();
+    let mut numbers = no_numbers(alloc, darts)?;
+    let mut count = 0;
+    for dart in 0..darts {
+        if numbers[dart as usize].is_none() {
+            mark_ring(rotation, dart, count, &mut numbers);
+            count += 1;
+        }
+    }
+    Ok(Numbering::new(count, all_numbers(alloc, &numbers)?))
+}

@@ -1,0 +1,239 @@
+//! The rings and components of small maps.
+
+ghost use Rattle.std.specs.Prelude.{◌≡◌, ◌&&◌, ◌*◌, IsTrue, length};
+ghost use Rattle.plane_model.specs.Rows.{rows_of};
+ghost use Rattle.std.specs.List.{list_all};
+ghost use Rattle.plane_model.specs.InRange.{is_edge_in_range, is_face_id, is_id, is_in_range, is_none_or};
+ghost use Rattle.topo_base.specs.SignedEdge.{is_signed_edge};
+
+use crate::{Numbering, first_mixed_ring, number_components, number_rings};
+use plane_model::{EdgeRow, FaceRow, NodeRow, Tables};
+use rotation_check::{CheckFault, Rotation, check};
+use std::alloc::{AllocError, Global};
+use std::process::Abort;
+use std::test::Fail;
+use topo_base::{IdNumber, LARGEST_ID, Refusal, SignedNumber};
+
+/// A node: its id and the face that contains it.
+type Node = (IdNumber, Option<IdNumber>);
+
+/// An edge: its id, its start and end, its left and right next, and the faces on its left and right.
+type Edge = (
+    IdNumber,
+    (IdNumber, IdNumber),
+    (SignedNumber, SignedNumber),
+    (IdNumber, IdNumber),
+);
+
+const NODES: [Node; 3] = [(1, None), (2, None), (3, None)];
+
+fn is_id(id: IdNumber) -> bool
+    ensures { result ≡ is_id id }
+{
+    id >= 1 && id <= LARGEST_ID
+}
+
+fn is_face_id(id: IdNumber) -> bool
+    ensures { result ≡ is_face_id id }
+{
+    id <= LARGEST_ID
+}
+
+fn is_signed_edge(number: SignedNumber) -> bool
+    ensures { result ≡ is_signed_edge number }
+{
+    number != 0 && number.unsigned_abs() <= LARGEST_ID
+}
+
+fn are_nodes_in_range(nodes: &[NodeRow]) -> bool
+    ensures { result ≡ list_all (λ r. is_id r.id && is_none_or is_face_id r.face) nodes.now }
+{
+    nodes
+        .iter()
+        .all(|node| is_id(node.id) && node.face.is_none_or(is_face_id))
+}
+
+fn is_edge_in_range(edge: &EdgeRow) -> bool
+    ensures { result ≡ is_edge_in_range edge.now }
+{
+    is_id(edge.id)
+        && is_id(edge.start)
+        && is_id(edge.end)
+        && is_signed_edge(edge.next_left)
+        && is_signed_edge(edge.next_right)
+        && is_face_id(edge.left_face)
+        && is_face_id(edge.right_face)
+}
+
+fn are_edges_in_range(edges: &[EdgeRow]) -> bool
+    ensures { result ≡ list_all is_edge_in_range edges.now }
+{
+    edges.iter().all(|edge| is_edge_in_range(edge))
+}
+
+fn are_faces_in_range(faces: &[FaceRow]) -> bool
+    ensures { result ≡ list_all (λ r. is_face_id r.id) faces.now }
+{
+    faces.iter().all(|face| is_face_id(face.id))
+}
+
+/// Whether tables without regions and members are in range.
+fn are_in_range(tables: &Tables) -> bool
+    ensures { IsTrue result → IsTrue (is_in_range (rows_of tables.now)) }
+{
+    if !are_nodes_in_range(&tables.nodes)
+        || !are_edges_in_range(&tables.edges)
+        || !are_faces_in_range(&tables.faces)
+    {
+        return false;
+    }
+    if !tables.regions.is_empty() || !tables.members.is_empty() {
+        return false;
+    }
+    tables.nodes.len() <= 16_777_216
+        && tables.edges.len() <= 16_777_216
+        && tables.faces.len() <= 16_777_216
+}
+
+fn tables(
+    alloc: Global,
+    nodes: &[Node],
+    edges: &[Edge],
+    faces: &[IdNumber],
+) -> Result<Tables, AllocError> {
+    Ok(Tables {
+        nodes: nodes
+            .iter()
+            .map(|&(id, face)| NodeRow { id, face })
+            .collect(alloc)?,
+        edges: edges
+            .iter()
+            .map(|&(id, (start, end), (next_left, next_right), (left_face, right_face))| EdgeRow {
+                id,
+                start,
+                end,
+                next_left,
+                next_right,
+                left_face,
+                right_face,
+            })
+            .collect(alloc)?,
+        faces: faces.iter().map(|&id| FaceRow { id }).collect(alloc)?,
+        regions: Vec::new(alloc),
+        members: Vec::new(alloc),
+    })
+}
+
+fn checked(
+    alloc: Global,
+    nodes: &[Node],
+    edges: &[Edge],
+    faces: &[IdNumber],
+) -> Result<Result<Rotation, CheckFault>, Fail> {
+    let tables = tables(alloc, nodes, edges, faces)?;
+    if are_in_range(&tables) {
+        Ok(check(alloc, &tables))
+    } else {
+        Err(Fail::new("a number that is out of range"))
+    }
+}
+
+/// The numbers of all darts.
+fn numbers(
+    alloc: Global,
+    rotation: &Rotation,
+    numbering: &Numbering,
+) -> Result<Vec<u32>, AllocError>
+    requires { length numbering.now.of_darts ≡ 2 * length rotation.now.edges }
+{
+    let mut numbers = Vec::new(alloc);
+    for dart in 0..2 * rotation.edges() {
+        numbers.push(numbering.number(dart))?;
+    }
+    Ok(numbers)
+}
+
+/// Whether a rotation has these rings and components, by the numbers of its darts.
+fn has_parts(
+    rt: &impl Abort,
+    alloc: Global,
+    rotation: &Rotation,
+    rings: (u32, &[u32]),
+    components: (u32, &[u32]),
+) -> Result<(), Fail> {
+    let found = number_rings(alloc, rotation)?;
+    assert_eq!(rt; found.count(), rings.0);
+    assert_eq!(rt; numbers(alloc, rotation, &found)?.as_slice(), rings.1);
+    let found = number_components(alloc, rotation)?;
+    assert_eq!(rt; found.count(), components.0);
+    assert_eq!(rt; numbers(alloc, rotation, &found)?.as_slice(), components.1);
+    Ok(())
+}
+
+#[test]
+fn a_triangle_has_two_rings_and_one_component(rt: HostRuntime) -> Result<(), Fail> {
+    let edges = [
+        (1, (1, 2), (2, -3), (1, 0)),
+        (2, (2, 3), (3, -1), (1, 0)),
+        (3, (3, 1), (1, -2), (1, 0)),
+    ];
+    let rotation = checked(rt.alloc(), &NODES, &edges, &[0, 1])??;
+    assert_eq!(rt; first_mixed_ring(&rotation), None);
+    has_parts(
+        &rt,
+        rt.alloc(),
+        &rotation,
+        (2, &[0, 1, 0, 1, 0, 1]),
+        (1, &[0, 0, 0, 0, 0, 0]),
+    )
+}
+
+#[test]
+fn parts_are_numbered_by_their_first_darts(rt: HostRuntime) -> Result<(), Fail> {
+    // A closed edge stands between the rows of a triangle.
+    let nodes = [(1, None), (9, None), (2, None), (3, None)];
+    let edges = [
+        (3, (3, 1), (1, -2), (1, 0)),
+        (9, (9, 9), (9, -9), (2, 1)),
+        (1, (1, 2), (2, -3), (1, 0)),
+        (2, (2, 3), (3, -1), (1, 0)),
+    ];
+    let rotation = checked(rt.alloc(), &nodes, &edges, &[1, 2])??;
+    assert_eq!(rt; first_mixed_ring(&rotation), None);
+    has_parts(
+        &rt,
+        rt.alloc(),
+        &rotation,
+        (4, &[0, 1, 2, 3, 0, 1, 0, 1]),
+        (2, &[0, 0, 1, 1, 0, 0, 0, 0]),
+    )
+}
+
+#[test]
+fn an_open_edge_has_one_ring_and_a_map_without_edges_none(rt: HostRuntime) -> Result<(), Fail> {
+    let rotation = checked(
+        rt.alloc(),
+        &NODES[..2],
+        &[(7, (1, 2), (-7, 7), (0, 0))],
+        &[],
+    )??;
+    has_parts(&rt, rt.alloc(), &rotation, (1, &[0, 0]), (1, &[0, 0]))?;
+    let empty = checked(rt.alloc(), &[], &[], &[])??;
+    assert_eq!(rt; first_mixed_ring(&empty), None);
+    has_parts(&rt, rt.alloc(), &empty, (0, &[]), (0, &[]))
+}
+
+#[test]
+fn a_ring_with_one_wrong_side_is_refused(rt: HostRuntime) -> Result<(), Fail> {
+    let edges = [
+        (1, (1, 2), (2, -3), (1, 0)),
+        (2, (2, 3), (3, -1), (0, 0)),
+        (3, (3, 1), (1, -2), (1, 0)),
+    ];
+    let rotation = checked(rt.alloc(), &NODES, &edges, &[0, 1])??;
+    assert_eq!(rt;
+        first_mixed_ring(&rotation),
+        Some(Refusal::MixedRing { edge: 1, next: 2 })
+    );
+    Ok(())
+}
