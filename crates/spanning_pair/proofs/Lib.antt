@@ -1,0 +1,12 @@
+pub mod OtherDart
+pub mod ByRule
+pub mod Pigeon
+pub mod Going
+pub mod Lists
+pub mod Components
+pub mod Computed
+pub mod Touring
+pub mod Open
+pub mod RotationDarts
+pub mod ComponentDarts
+pub mod Unique

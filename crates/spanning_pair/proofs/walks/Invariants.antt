@@ -1,0 +1,8 @@
+use Rattle.std.proofs.Common.{length}
+use Rattle.spanning_pair.specs.Rotations.{next_dart, node_row}
+use Rattle.spanning_pair.proofs.Touring.{Touring}
+use Rattle.spanning_pair.proofs.walks.Given as goal
+
+abbrev pub invariant-loop-start : goal.invariant-loop-start
+invariant-loop-start l =
+    Touring (length l.rotation.edges) (length l.rotation.nodes) (next_dart l.rotation) (node_row l.rotation) l.starts l.start-index l.tour.darts.items l.tour.tree.items l.tour.first.items l.tour.starts.items l.seen.items l.known.items l.visited.items

@@ -1,0 +1,6 @@
+pub mod Crossings
+pub mod Darts
+pub mod Faults
+pub mod Rotations
+pub mod Tours
+pub mod Walks

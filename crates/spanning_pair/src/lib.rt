@@ -1,0 +1,199 @@
+//! The walk round a spanning tree of each component of a rotation system.
+#![tactic(auto)]
+
+ghost use Rattle.std.specs.Prelude.{◌≡◌, ℕ, ◌+◌, ◌*◌, ◌/◌, ◌<◌, ◌≤◌, length, cond, not, IfOk, IfErr, OnOk, MatchOption, Bool};
+ghost use Rattle.rotation_check.specs.Darts.{IsRotation};
+ghost use Rattle.spanning_pair.specs.Crossings.{ArePairs, OthersNest, IsFirstCrossing};
+ghost use Rattle.spanning_pair.specs.Darts.{reverse_dart};
+ghost use Rattle.spanning_pair.specs.Faults.{IsTourFault};
+ghost use Rattle.spanning_pair.specs.Rotations.{next_dart, node_row, AreComponentStarts};
+ghost use Rattle.spanning_pair.specs.Tours.{number_at, flag_at, AreClean, AreMarked, IsNumberedSystem, IsWalkAppended, IsTour, IsTheTour};
+ghost use Rattle.spanning_pair.specs.Walks.{after};
+
+use rotation_check::Rotation;
+use std::alloc::{AllocError, Global};
+use topo_base::IdNumber;
+
+pub mod laws;
+mod places;
+#[cfg(test)]
+mod tests;
+
+pub use places::Tour;
+
+/// Why there is no tour.
+#[derive(Clone, Copy, Debug, PartialEq, Eq)]
+pub enum TourFault {
+    /// Two edges that are not of the tree interleave. Read from the front, the edge of this id is the first that ends while one that began later is open.
+    Crossed { edge: IdNumber },
+    /// Memory ran out.
+    Memory,
+}
+
+/// The other dart of the edge.
+fn reverse(dart: u32) -> u32
+    ensures { result ≡ reverse_dart dart }
+{
+    if dart % 2 == 0 { dart + 1 } else { dart - 1 }
+}
+
+/// The row of the node that a dart enters.
+fn head_row(rotation: &Rotation, dart: u32) -> u32
+    requires rotation { IsRotation rotation.now }
+    requires within { dart < 2 * length rotation.now.edges }
+    ensures within { result < length rotation.now.nodes }
+    ensures head { result ≡ node_row rotation.now (reverse_dart dart) }
+{
+    rotation.node(reverse(dart))
+}
+
+/// The row of the node that a dart leaves.
+fn tail_row(rotation: &Rotation, dart: u32) -> u32
+    requires rotation { IsRotation rotation.now }
+    requires within { dart < 2 * length rotation.now.edges }
+    ensures within { result < length rotation.now.nodes }
+    ensures tail { result ≡ node_row rotation.now dart }
+{
+    rotation.node(dart)
+}
+
+/// Whether an edge is a tree edge: a new one is where its head was not visited.
+fn is_tree_edge(is_new: bool, head_visited: bool, known: bool) -> bool
+    ensures { result ≡ cond is_new (not head_visited) known }
+{
+    if is_new { !head_visited } else { known }
+}
+
+/// The dart that comes after `dart` in the walk.
+fn dart_after(rotation: &Rotation, is_tree: bool, dart: u32) -> u32
+    requires rotation { IsRotation rotation.now }
+    requires within { dart < 2 * length rotation.now.edges }
+    ensures { result ≡ after (next_dart rotation.now) is_tree dart }
+{
+    if is_tree {
+        rotation.next(dart)
+    } else {
+        rotation.turn(dart)
+    }
+}
+
+/// Appends the walk of the component of `start`.
+fn walk(
+    rotation: &Rotation,
+    start: u32,
+    seen: &mut [bool],
+    known: &mut [bool],
+    visited: &mut [bool],
+    tour: &mut Tour,
+) -> Result<(), AllocError>
+    requires rotation { IsRotation rotation.now }
+    requires system { IsNumberedSystem (length seen.old) (length visited.old) (next_dart rotation.now) (node_row rotation.now) }
+    requires seen_len { length seen.old ≡ length rotation.now.edges }
+    requires visited_len { length visited.old ≡ length rotation.now.nodes }
+    requires known_len { length known.old ≡ length seen.old }
+    requires start_below { start < 2 * length seen.old }
+    requires tree_len { length tour.old.tree.items ≡ length tour.old.darts.items }
+    requires first_len { length tour.old.first.items ≡ length tour.old.darts.items }
+    requires clean { AreClean (next_dart rotation.now) (node_row rotation.now) start seen.old visited.old }
+    ensures walk { OnOk result (IsWalkAppended (next_dart rotation.now) (node_row rotation.now) start tour.old.darts.items tour.old.tree.items tour.old.first.items tour.new.darts.items tour.new.tree.items tour.new.first.items) }
+    ensures starts { OnOk result (tour.new.starts.items ≡ tour.old.starts.items) }
+    ensures marks { OnOk result (AreMarked (next_dart rotation.now) (node_row rotation.now) start seen.old visited.old seen.new visited.new) }
+{
+    visited[tail_row(rotation, start) as usize] = true;
+    let mut current = start;
+    'walk: loop {
+        let edge = (current / 2) as usize;
+        let head = head_row(rotation, current) as usize;
+        let is_new = !seen[edge];
+        let is_tree = is_tree_edge(is_new, visited[head], known[edge]);
+        seen[edge] = true;
+        known[edge] = is_tree;
+        visited[head] = true;
+        tour.darts.push(current)?;
+        tour.tree.push(is_tree)?;
+        tour.first.push(is_new)?;
+        current = dart_after(rotation, is_tree, current);
+        if current == start {
+            return Ok(());
+        }
+    }
+}
+
+/// The walk of the component of each start, one after another.
+fn walks(alloc: Global, rotation: &Rotation, starts: &[u32]) -> Result<Tour, AllocError>
+    requires starts { AreComponentStarts rotation.now starts.now }
+    ensures tour { IfOk result (λ t. IsTour (length rotation.now.edges) (next_dart rotation.now) (node_row rotation.now) starts.now t.darts.items t.tree.items t.first.items t.starts.items) }
+    ensures rotation { OnOk result (IsRotation rotation.now) }
+{
+    let edges = rotation.edges() as usize;
+    let nodes = rotation.nodes() as usize;
+    let mut seen = vec![in alloc; false; edges]?;
+    let mut known = vec![in alloc; false; edges]?;
+    let mut visited = vec![in alloc; false; nodes]?;
+    let mut tour = Tour {
+        darts: Vec::new(alloc),
+        tree: Vec::new(alloc),
+        first: Vec::new(alloc),
+        starts: Vec::new(alloc),
+    };
+    tour.starts.push(0)?;
+    for start in starts {
+        walk(
+            rotation,
+            *start,
+            &mut seen,
+            &mut known,
+            &mut visited,
+            &mut tour,
+        )?;
+        let place = tour.darts.len() as u32;
+        tour.starts.push(place)?;
+    }
+    Ok(tour)
+}
+
+/// The dart at whose second place an edge ends while another one that began later is open, neither of them a tree edge.
+fn crossing(
+    alloc: Global,
+    darts: &[u32],
+    tree: &[bool],
+    first: &[bool],
+) -> Result<Option<u32>, AllocError>
+    requires pairs { ArePairs (number_at darts.now) (flag_at tree.now) (flag_at first.now) (length darts.now) }
+    requires tree_len { length tree.now ≡ length darts.now }
+    requires first_len { length first.now ≡ length darts.now }
+    ensures { IfOk result (λ o. MatchOption o (OthersNest (number_at darts.now) (flag_at tree.now) (length darts.now)) (λ d. IsFirstCrossing (number_at darts.now) (flag_at tree.now) (length darts.now) d)) }
+{
+    let mut open: Vec<usize> = Vec::new(alloc);
+    for place in 0..darts.len() {
+        if !tree[place] {
+            if first[place] {
+                open.push(place)?;
+            } else if let Some(top) = open.pop() {
+                if darts[top] != reverse(darts[place]) {
+                    return Ok(Some(darts[place]));
+                }
+            }
+        }
+    }
+    Ok(None)
+}
+
+/// The walk round a spanning tree of each component, where no two other edges cross. A component's walk begins at its entry of `starts`, a dart.
+pub fn tour(alloc: Global, rotation: &Rotation, starts: &[u32]) -> Result<Tour, TourFault>
+    requires starts { AreComponentStarts rotation.now starts.now }
+    ensures tour { IfOk result (λ t. IsTheTour (length rotation.now.edges) (next_dart rotation.now) (node_row rotation.now) starts.now t.darts.items t.tree.items t.first.items t.starts.items) }
+    ensures nested { IfOk result (λ t. OthersNest (number_at t.darts.items) (flag_at t.tree.items) (length t.darts.items)) }
+    ensures fault { IfErr result (IsTourFault rotation.now starts.now) }
+{
+    let Ok(tour) = walks(alloc, rotation, starts) else {
+        return Err(TourFault::Memory);
+    };
+    match crossing(alloc, &tour.darts, &tour.tree, &tour.first) {
+        Ok(None) => Ok(tour),
+        Ok(Some(dart)) => Err(TourFault::Crossed {
+            edge: rotation.id(dart).edge().0,
+        }),
+        Err(_) => Err(TourFault::Memory),
+    }
+}
