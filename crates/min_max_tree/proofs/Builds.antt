@@ -6,11 +6,11 @@ use Rattle.bit_words.specs.WrongEntry.{IsFirstWrong}
 use Rattle.min_max_tree.specs.Built.{Holds, Built}
 use Rattle.min_max_tree.specs.Tree.{span_at, size_at, start_at, node_from, node_to, node, nodes_of, tree_size}
 use Rattle.min_max_tree.proofs.Runs.{run-bounds, run-none, run-more}
-use Rattle.min_max_tree.specs.Node.{IsRun, joined, of_word, word_of}
+use Rattle.min_max_tree.specs.Node.{IsRun, joined, AreJoinable, of_word, word_of}
 use Rattle.min_max_tree.specs.Level.{IsLevel}
 use Rattle.min_max_tree.specs.declared.node.Node.{Node}
 use Rattle.min_max_tree.specs.declared.level.Level.{Level}
-use Rattle.min_max_tree.proofs.Runs.{run-joined, run-word, word-run}
+use Rattle.min_max_tree.proofs.Runs.{runs-joinable, run-joined, run-word, word-run}
 use Rattle.min_max_tree.proofs.Levels.{start-up, span-zero}
 use Rattle.min_max_tree.proofs.Sizes.{nodes-length, tree-le}
 use Rattle.min_max_tree.proofs.Nodes.{parent-there, node-at, node-order, left-from, right-to, left-there, only-left, next-from, there-node}
@@ -68,27 +68,14 @@ module _ (bits : List Bool) (few : length bits ≤ 2147483647) (h j : ℕ) (with
         let n = next-from (length bits) h (2 * j) there in
         omega arith
 
-    pub join-total : 2147483648 ≤ run.total + next.total
-    join-total =
-        let o1 = order-left in
-        let o2 = order-right in
-        let a = run-bounds bits _ _ run r o1 (omega arith) in
-        let b = run-bounds bits _ _ next next-run o2 (omega arith) in
-        omega (arith, a.total_low, b.total_low, o1, o2, few)
-
-    pub join-least : 2147483648 ≤ run.total + next.least
-    join-least =
-        let o1 = order-left in
-        let o2 = order-right in
-        let a = run-bounds bits _ _ run r o1 (omega arith) in
-        let b = run-bounds bits _ _ next next-run o2 (omega arith) in
-        omega (arith, a.total_low, b.least_low, o1, o2, few)
+    pub children-joinable : AreJoinable run next
+    children-joinable = runs-joinable bits _ _ _ run next order-left order-right r next-run few (omega arith)
 
     pub parent-both : IsRun bits (node_from (h + 1) j) (node_to (length bits) (h + 1) j) (joined run next)
     parent-both =
         subst (λ t. IsRun bits (node_from (h + 1) j) t (joined run next)) (right-to (length bits) h j)
         (subst (λ f. IsRun bits f (node_to (length bits) h (2 * j + 1)) (joined run next)) (left-from h j)
-        (run-joined bits _ _ _ run next order-left order-right r next-run join-total join-least))
+        (run-joined bits _ _ _ run next order-left order-right r next-run few (omega arith)))
 
 pub Built-none : (tree words : List ℕ) → words ≡ [] → Built tree words 0
 Built-none tree words e = record {

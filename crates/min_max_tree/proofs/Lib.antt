@@ -8,3 +8,4 @@ pub mod Sizes
 pub mod Runs
 pub mod Builds
 pub mod Backs
+pub mod Between

@@ -6,7 +6,7 @@ use Rattle.std.proofs.lemmas.Int.{ints, clamps}
 use Rattle.bit_words.specs.Bits.{excess}
 use Rattle.bit_words.proofs.Ranks.{excess_up, excess_down}
 use Rattle.min_max_tree.specs.Tree.{size_at, node_from, node_to, least, total_of, least_of, node}
-use Rattle.min_max_tree.specs.Node.{IsRun, no_bits, with_bit, joined, of_word, word_of}
+use Rattle.min_max_tree.specs.Node.{IsRun, no_bits, with_bit, joined, AreJoinable, of_word, word_of}
 use Rattle.min_max_tree.specs.declared.node.Node.{Node}
 use Rattle.min_max_tree.proofs.Falls.{slope, slope-up}
 use Rattle.min_max_tree.proofs.Nodes.{least-le, least-above, small_total, small_least, word-total, word-least}
@@ -81,19 +81,35 @@ module _ (bits : List Bool) (from to : ℕ) (run : Node) (order : from ≤ to) (
       }
 
 -- a run and the one after it
-pub run-joined : (bits : List Bool) (from middle to : ℕ) (run next : Node) → from ≤ middle → middle ≤ to → IsRun bits from middle run → IsRun bits middle to next → 2147483648 ≤ run.total + next.total → 2147483648 ≤ run.total + next.least → IsRun bits from to (joined run next)
-run-joined bits from middle to run next o1 o2 r s low lower =
-    let E = excess bits in
-    let d1 = middle - from in
-    let d2 = to - middle in
-    let q : to - from ≡ d1 + d2 = omega arith in
-    let g : from + d1 ≡ middle = omega arith in
-    let u : least E from (d1 + d2) ≡ int_min (least E from d1) (least E middle d2) = subst (λ x. least E from (d1 + d2) ≡ int_min (least E from d1) (least E x d2)) g (least-union E from d1 d2) in
-    let v : least E from (to - from) ≡ int_min (least E from d1) (least E middle d2) = ap (least E from) q ∙ u in
-    record {
-      total = omega (arith, ints, r.total, s.total, low);
-      least = omega (arith, ints, clamps, r.total, r.least, s.least, v, lower);
-    }
+module _ (bits : List Bool) (from middle to : ℕ) (run next : Node) (before : from ≤ middle) (after : middle ≤ to) (r : IsRun bits from middle run) (s : IsRun bits middle to next) where
+  pub runs-joinable : length bits ≤ 2147483647 → to ≤ length bits → AreJoinable run next
+  runs-joinable few within =
+      let a = run-bounds bits from middle run r before (omega arith) in
+      let b = run-bounds bits middle to next s after within in
+      record {
+        high = omega (arith, a.total_high);
+        total = omega (arith, a.total_low, b.total_low);
+        least = omega (arith, a.total_low, b.least_low);
+        next_total = omega (arith, b.total_high);
+        next_least = omega (arith, b.least_high);
+      }
+
+  run-sum : AreJoinable run next → IsRun bits from to (joined run next)
+  run-sum fit =
+      let E = excess bits in
+      let d1 = middle - from in
+      let d2 = to - middle in
+      let q : to - from ≡ d1 + d2 = omega arith in
+      let g : from + d1 ≡ middle = omega arith in
+      let u : least E from (d1 + d2) ≡ int_min (least E from d1) (least E middle d2) = subst (λ x. least E from (d1 + d2) ≡ int_min (least E from d1) (least E x d2)) g (least-union E from d1 d2) in
+      let v : least E from (to - from) ≡ int_min (least E from d1) (least E middle d2) = ap (least E from) q ∙ u in
+      record {
+        total = omega (arith, ints, r.total, s.total, fit.total);
+        least = omega (arith, ints, clamps, r.total, r.least, s.least, v, fit.least);
+      }
+
+  pub run-joined : length bits ≤ 2147483647 → to ≤ length bits → IsRun bits from to (joined run next)
+  run-joined few within = run-sum (runs-joinable few within)
 
 -- the word of a node
 unbiased : (z : ℤ) (x : ℕ) → (pos 0 -ℤ pos 2147483648) ≤ℤ z → z ≤ℤ pos 2147483647 → pos x ≡ z +ℤ pos 2147483648 → cast_unsigned w32 z ≡ (x + 2147483648) % 4294967296

@@ -1,5 +1,5 @@
 -- What some bits sum to and the least of their fronts, as code keeps it.
-use Rattle.std.specs.Prelude.{ℕ, ◌≡◌, ◌+◌, ◌-◌, ◌*◌, ◌/◌, ◌%◌, pos, ◌+ℤ◌, ◌-ℤ◌, Bool, true, false, List, min}
+use Rattle.std.specs.Prelude.{ℕ, ◌≡◌, ◌+◌, ◌-◌, ◌*◌, ◌/◌, ◌%◌, ◌<◌, ◌≤◌, pos, ◌+ℤ◌, ◌-ℤ◌, Bool, true, false, List, min}
 use Rattle.bit_words.specs.Bits.{excess}
 use Rattle.min_max_tree.specs.Tree.{least}
 use Rattle.min_max_tree.specs.declared.node.Node.{Node}
@@ -21,6 +21,14 @@ with_bit node false = record { total = node.total - 1; least = min node.least (n
 -- the bits of one node and then those of the next
 abbrev pub joined : Node → Node → Node
 joined node next = record { total = node.total + next.total - 2147483648; least = min node.least (node.total + next.least - 2147483648) }
+
+-- the sums of the two stay in range
+pub record AreJoinable (node next : Node) : Type 0 where
+  pub high : node.total < 4294967296
+  pub total : 2147483648 ≤ node.total + next.total
+  pub least : 2147483648 ≤ node.total + next.least
+  pub next_total : next.total < 4294967296
+  pub next_least : next.least < 4294967296
 
 -- the two halves of a word, in two's complement of 32 bits
 abbrev pub of_word : ℕ → Node

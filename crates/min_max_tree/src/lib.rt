@@ -1,4 +1,4 @@
-//! The nearest place where an excess has fallen, by a tree of least excesses.
+//! The nearest place where an excess has fallen, and the least excess between two places, by a tree of least excesses.
 //!
 //! The excess at a place is the ones less the zeros before it. The tree has a word for each block of 512 bits and,
 //! level by level above, for each two words below it: what its bits sum to in the low 32 bits, and the least that a

@@ -8,7 +8,7 @@ pub(crate) struct Node {
 
 impl Node {
     ghost use Rattle.std.specs.Prelude.{◌≡◌, ◌<◌, ◌≤◌, ◌+◌, ◌*◌, ◌/◌, ◌%◌};
-    ghost use Rattle.min_max_tree.specs.Node.{no_bits, with_bit, joined, of_word, word_of};
+    ghost use Rattle.min_max_tree.specs.Node.{no_bits, with_bit, joined, AreJoinable, of_word, word_of};
 
     /// No bits.
     pub(crate) fn empty() -> Node
@@ -41,11 +41,7 @@ impl Node {
 
     /// These bits and those of `next`.
     pub(crate) fn joined(self, next: Node) -> Node
-        requires high { self.total < 4294967296 }
-        requires total { 2147483648 ≤ self.total + next.total }
-        requires least { 2147483648 ≤ self.total + next.least }
-        requires next_total { next.total < 4294967296 }
-        requires next_least { next.least < 4294967296 }
+        requires { AreJoinable self next }
         ensures { result ≡ joined self next }
     {
         Node {

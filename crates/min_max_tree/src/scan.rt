@@ -3,7 +3,9 @@ ghost use Rattle.bit_words.specs.Bits.{excess, rank};
 ghost use Rattle.bit_words.specs.BitView.{bits_of};
 ghost use Rattle.min_max_tree.specs.Search.{Scanned};
 ghost use Rattle.min_max_tree.specs.SearchBack.{ScannedBack};
+ghost use Rattle.min_max_tree.specs.Node.{IsRun};
 
+use crate::node::Node;
 use bit_words::{BitView, Steps, first_excess, last_excess, ones_below};
 use std::sync::ledger::Ledger;
 
@@ -156,4 +158,50 @@ pub(crate) fn ones_between<C: Ledger>(
         ones += ones_below(chunk, (to - 64 * word).min(64) as u32) as u64;
     }
     ones
+}
+
+/// The bits of one word from `from` to before `to`.
+pub(crate) fn run_of_word<C: Ledger>(
+    bits: &BitView<'_>,
+    from: usize,
+    to: usize,
+    steps: &mut Steps<C>,
+) -> Node
+    requires few { length (bits_of bits.now) ≤ 2147483647 }
+    requires some { from + 1 ≤ to }
+    requires within { to ≤ length (bits_of bits.now) }
+    requires one_word { to ≤ 64 * (from / 64 + 1) }
+    ensures run { IsRun (bits_of bits.now) from to result }
+    ensures one_step { steps.new ≡ steps.old + 1 }
+{
+    let word = from / 64;
+    let chunk = bits.chunk(word, steps);
+    let mut run = Node::empty();
+    for i in from..to {
+        run = run.with_bit(chunk >> (i - 64 * word) & 1 == 1);
+    }
+    run
+}
+
+/// The bits from `from` to before `to`, word by word.
+pub(crate) fn run_of_bits<C: Ledger>(
+    bits: &BitView<'_>,
+    from: usize,
+    to: usize,
+    steps: &mut Steps<C>,
+) -> Node
+    requires few { length (bits_of bits.now) ≤ 2147483647 }
+    requires order { from ≤ to }
+    requires within { to ≤ length (bits_of bits.now) }
+    ensures run { IsRun (bits_of bits.now) from to result }
+    ensures cost { steps.new ≤ steps.old + ((to + 63) / 64 - from / 64) }
+{
+    let mut at = from;
+    let mut run = Node::empty();
+    while at < to {
+        let end = to.min(64 * (at / 64 + 1));
+        run = run.joined(run_of_word(bits, at, end, steps));
+        at = end;
+    }
+    run
 }

@@ -23,6 +23,10 @@ enum Pattern {
     Zeros,
     EachThird,
     FirstHalf,
+    /// The excess is below 0 near the end alone.
+    FallAtEnd,
+    /// The excess is low near the start alone.
+    RiseAtStart,
 }
 
 impl Pattern {
@@ -34,6 +38,8 @@ impl Pattern {
                 Pattern::Zeros => false,
                 Pattern::EachThird => i % 3 == 0,
                 Pattern::FirstHalf => i < len / 2,
+                Pattern::FallAtEnd => i % 2 == 0 && i < len.saturating_sub(9),
+                Pattern::RiseAtStart => i % 2 == 0 || i < 9,
             })?;
         }
         Ok(bits)
@@ -99,15 +105,58 @@ fn plain_backward(excesses: &[i64], i: usize, drop: u64) -> Option<usize>
     (0..i).rev().find(|place| excesses[*place] == low)
 }
 
-/// Whether each excess and each fall is what plain counting gives.
+/// The least excess at a place from `from` to `to`.
+fn plain_least(excesses: &[i64], from: usize, to: usize) -> i64
+    requires order { from ≤ to }
+    requires place { to < length excesses.now }
+{
+    let mut least = excesses[from];
+    for place in from..to + 1 {
+        least = least.min(excesses[place]);
+    }
+    least
+}
+
+/// Whether the falls from place `i` and back are what plain counting gives.
+fn falls_agree<C: Ledger>(
+    tree: MinMaxView<'_>,
+    i: usize,
+    excesses: &[i64],
+    steps: &mut Steps<C>,
+) -> bool
+    requires place { i ≤ length (searched tree) }
+    requires excesses { i < length excesses.now }
+{
+    for k in 0..6 {
+        let drop = 1 + 60 * k;
+        if tree.forward(i, drop, steps) != plain_forward(excesses, i, drop) {
+            return false;
+        }
+        if tree.backward(i, drop, steps) != plain_backward(excesses, i, drop) {
+            return false;
+        }
+    }
+    true
+}
+
+/// Each place at a multiple of `stride`, and at and before the end of a block.
+fn is_tried(place: usize, stride: usize) -> bool
+    requires { 0 < stride }
+{
+    place % stride == 0 || place % 512 == 0 || place % 512 == 511
+}
+
+/// Whether each excess, and each fall and least excess that is tried, is what plain counting gives.
 fn agrees<C: Ledger>(
     tree: MinMaxView<'_>,
     len: usize,
     excesses: &[i64],
+    stride: usize,
     steps: &mut Steps<C>,
 ) -> bool
     requires len { length (searched tree) ≡ len }
     requires few { len ≤ 2147483647 }
+    requires stride { 0 < stride }
 {
     if excesses.len() != len + 1 {
         return false;
@@ -116,11 +165,16 @@ fn agrees<C: Ledger>(
         if tree.excess(i, steps) != excesses[i] {
             return false;
         }
-        for drop in 1..8 {
-            if tree.forward(i, drop, steps) != plain_forward(excesses, i, drop) {
-                return false;
-            }
-            if tree.backward(i, drop, steps) != plain_backward(excesses, i, drop) {
+        if !is_tried(i, stride) {
+            continue;
+        }
+        if !falls_agree(tree, i, excesses, steps) {
+            return false;
+        }
+        for to in i..len + 1 {
+            if is_tried(to, stride)
+                && tree.least_between(i, to, steps) != plain_least(excesses, i, to)
+            {
                 return false;
             }
         }
@@ -132,8 +186,10 @@ fn agrees<C: Ledger>(
 fn examined<C: Ledger>(
     image: &Image,
     excesses: &[i64],
+    stride: usize,
     blank: Blank,
 ) -> Option<Result<bool, WrongEntry>>
+    requires stride { 0 < stride }
     requires name { blank.name ≡ C.name }
     requires parts { blank.parts ≡ C.parts }
     requires some { 0 < blank.parts }
@@ -152,21 +208,43 @@ fn examined<C: Ledger>(
         return Some(Err(wrong));
     }
     let tree = MinMaxView::new(bits, nodes);
-    Some(Ok(agrees(tree, image.len, excesses, &mut steps)))
+    Some(Ok(agrees(tree, image.len, excesses, stride, &mut steps)))
+}
+
+/// The fall from place 0, the fall back from place 2, and the least excess, of two bits.
+fn falls_of_two<C: Ledger>(
+    image: &Image,
+    blank: Blank,
+) -> Option<(Option<usize>, Option<usize>, i64)>
+    requires name { blank.name ≡ C.name }
+    requires parts { blank.parts ≡ C.parts }
+    requires some { 0 < blank.parts }
+{
+    let mut steps = Steps::<C>::new(blank);
+    let words = WordView::new(image.bits.as_slice())?;
+    let nodes = WordView::new(image.nodes.as_slice())?;
+    if words.len() != 1 || nodes.len() != node_count(2) {
+        return None;
+    }
+    let bits = BitView::new(words, 2);
+    check(bits, nodes, &mut steps).ok()?;
+    let tree = MinMaxView::new(bits, nodes);
+    Some((
+        tree.forward(0, 1, &mut steps),
+        tree.backward(2, 1, &mut steps),
+        tree.least_between(0, 2, &mut steps),
+    ))
 }
 
 #[test]
-fn a_zero_and_a_one_have_their_word_and_fall(rt: HostRuntime) -> Result<(), Fail> {
-    let bits = [false, true];
-    let image = image_of(rt.alloc(), &bits)?;
+fn a_zero_and_a_one_fall_at_place_one(rt: HostRuntime) -> Result<(), Fail> {
+    let image = image_of(rt.alloc(), &[false, true])?;
     assert_eq!(rt;
         image.nodes.as_slice(),
         18446744069414584320_u64.to_le_bytes().as_slice()
     );
-    assert_eq!(rt; plain_forward(&[0, -1, 0], 0, 1), Some(1));
-    assert_eq!(rt; plain_backward(&[0, -1, 0], 2, 1), Some(1));
-    let outcome = examined::<Brand>(&image, &[0, -1, 0], Blank::new(1));
-    assert_eq!(rt; outcome, Some(Ok(true)));
+    let falls = falls_of_two::<Brand>(&image, Blank::new(1));
+    assert_eq!(rt; falls, Some((Some(1), Some(1), -1)));
     Ok(())
 }
 
@@ -186,25 +264,30 @@ fn the_first_wrong_word_is_named(rt: HostRuntime) -> Result<(), Fail> {
         want: 0,
         found: 5,
     };
-    let outcome = examined::<Brand>(&image, &[], Blank::new(1));
+    let outcome = examined::<Brand>(&image, &[], 1, Blank::new(1));
     assert_eq!(rt; outcome, Some(Err(want)));
     Ok(())
 }
 
 #[test]
-fn excesses_and_falls_are_those_of_plain_counting(rt: HostRuntime) -> Result<(), Fail> {
-    for len in [0, 511, 512, 513, 1024, 1537] {
+fn excesses_falls_and_least_excesses_are_those_of_plain_counting(
+    rt: HostRuntime,
+) -> Result<(), Fail> {
+    for len in [0, 511, 512, 513, 1024, 1536, 8704] {
+        let stride = if len > 2000 { 509 } else { 61 };
         for pattern in [
             Pattern::Ones,
             Pattern::Zeros,
             Pattern::EachThird,
             Pattern::FirstHalf,
+            Pattern::FallAtEnd,
+            Pattern::RiseAtStart,
         ] {
             let bits = pattern.bits(rt.alloc(), len)?;
             assert!(rt; bits.len() <= 2147483647);
             let image = image_of(rt.alloc(), bits.as_slice())?;
             let excesses = plain_excesses(rt.alloc(), bits.as_slice())?;
-            let outcome = examined::<Brand>(&image, excesses.as_slice(), Blank::new(1));
+            let outcome = examined::<Brand>(&image, excesses.as_slice(), stride, Blank::new(1));
             assert_eq!(rt; outcome, Some(Ok(true)), "{len} bits {pattern:?}");
         }
     }

@@ -5,7 +5,7 @@ ghost use Rattle.min_max_tree.specs.Tree.{nodes_of};
 
 use crate::level::Level;
 use crate::node::Node;
-use crate::scan::{Scan, ones_between, scan_bits, scan_bits_back};
+use crate::scan::{Scan, ones_between, run_of_bits, scan_bits, scan_bits_back};
 use bit_words::{BitView, Steps, WordView};
 use std::sync::ledger::Ledger;
 
@@ -34,10 +34,11 @@ pub(crate) enum Side {
 }
 
 impl<'a> MinMaxView<'a> {
-    ghost use Rattle.std.specs.Prelude.{◌≡◌, ◌<◌, ◌≤◌, ◌+◌, ◌*◌, ◌/◌, ◌%◌, length, pos, ◌+ℤ◌, ◌-ℤ◌, IfSome, IfNone};
+    ghost use Rattle.std.specs.Prelude.{◌≡◌, ◌<◌, ◌≤◌, ◌+◌, ◌-◌, ◌*◌, ◌/◌, ◌%◌, length, pos, ◌+ℤ◌, ◌-ℤ◌, IfSome, IfNone};
     ghost use Rattle.bit_words.specs.BitView.{bits_of};
     ghost use Rattle.bit_words.specs.WordView.{words_of};
-    ghost use Rattle.min_max_tree.specs.Tree.{nodes_of, size_at, total_of, least_of, node_from, node_to};
+    ghost use Rattle.min_max_tree.specs.Tree.{nodes_of, size_at, total_of, least_of, node_from, node_to, least};
+    ghost use Rattle.min_max_tree.specs.Node.{IsRun};
     ghost use Rattle.min_max_tree.specs.Level.{IsLevel, IsSpot, LeadsTo, Passes, Sibling};
     ghost use Rattle.min_max_tree.specs.Search.{Reaches, StaysAbove};
     ghost use Rattle.min_max_tree.specs.SearchBack.{IsSpotBack, LeadsBack, PassesBack, SiblingBack, Leaves, WasAbove};
@@ -63,7 +64,6 @@ impl<'a> MinMaxView<'a> {
         ensures small_least { result.least < 4294967296 }
         ensures one_step { steps.new ≡ steps.old + 1 }
     {
-        let _count = self.nodes.len();
         Node::of_word(self.nodes.word(level.start + j, steps))
     }
 
@@ -145,16 +145,17 @@ impl<'a> MinMaxView<'a> {
         ensures one_step { steps.new ≡ steps.old + 1 }
     {
         let level = spot.level.below(self.bits.len());
-        match self.pass(level, 2 * spot.j, spot.need, steps) {
+        let left = 2 * spot.j;
+        match self.pass(level, left, spot.need, steps) {
             Side::Reached => Spot {
                 level,
-                j: 2 * spot.j,
+                j: left,
                 need: spot.need,
             },
-            Side::Passed(left) => Spot {
+            Side::Passed(need) => Spot {
                 level,
-                j: 2 * spot.j + 1,
-                need: left,
+                j: left + 1,
+                need,
             },
         }
     }
@@ -313,23 +314,25 @@ impl<'a> MinMaxView<'a> {
     {
         let len = self.bits.len();
         let level = spot.level.below(len);
-        if 2 * spot.j + 1 >= level.size(len) {
+        let left = 2 * spot.j;
+        let right = left + 1;
+        if right >= level.size(len) {
             return Spot {
                 level,
-                j: 2 * spot.j,
+                j: left,
                 need: spot.need,
             };
         }
-        match self.pass_back(level, 2 * spot.j + 1, spot.need, steps) {
+        match self.pass_back(level, right, spot.need, steps) {
             Side::Reached => Spot {
                 level,
-                j: 2 * spot.j + 1,
+                j: right,
                 need: spot.need,
             },
-            Side::Passed(left) => Spot {
+            Side::Passed(need) => Spot {
                 level,
-                j: 2 * spot.j,
-                need: left,
+                j: left,
+                need,
             },
         }
     }
@@ -447,5 +450,83 @@ impl<'a> MinMaxView<'a> {
         let before = self.before_block(block, steps);
         let ones = ones_between(&self.bits, 512 * block, i, steps);
         (before + 2 * ones) as i64 - (1099511627776 + (i - 512 * block) as i64)
+    }
+
+    /// The nodes from `from` to before `to` of a level, which are one at most.
+    fn one_or_none<C: Ledger>(
+        &self,
+        level: Level,
+        from: usize,
+        to: usize,
+        steps: &mut Steps<C>,
+    ) -> Node
+        requires level { IsLevel (length (searched self.now)) level }
+        requires order { from ≤ to }
+        requires one { to ≤ from + 1 }
+        requires within { node_from level.height to ≤ length (searched self.now) }
+        ensures run { IsRun (searched self.now) (node_from level.height from) (node_from level.height to) result }
+        ensures cost { steps.new ≡ steps.old + (to - from) }
+    {
+        if from == to {
+            return Node::empty();
+        }
+        self.node(level, from, steps)
+    }
+
+    /// The blocks from `first` to before `last`, by at most two nodes of each level: one at each end that has
+    /// no sibling there.
+    fn blocks<C: Ledger>(&self, first: usize, last: usize, steps: &mut Steps<C>) -> Node
+        requires some { 1 ≤ first }
+        requires order { first ≤ last }
+        requires within { 512 * last ≤ length (searched self.now) }
+        ensures run { IsRun (searched self.now) (512 * first) (512 * last) result }
+        ensures cost { steps.new ≤ steps.old + 2 * digits last }
+    {
+        let len = self.bits.len();
+        let mut level = Level::lowest();
+        let mut low = first;
+        let mut high = last;
+        let mut left = Node::empty();
+        let mut right = Node::empty();
+        while low < high {
+            left = left.joined(self.one_or_none(level, low, low + low % 2, steps));
+            right = self
+                .one_or_none(level, high - high % 2, high, steps)
+                .joined(right);
+            low = low.div_ceil(2);
+            high /= 2;
+            level = level.above(len);
+        }
+        left.joined(right)
+    }
+
+    /// The bits from `from` to before `to`: the whole blocks among them by their nodes, and the rest word by word.
+    fn run<C: Ledger>(&self, from: usize, to: usize, steps: &mut Steps<C>) -> Node
+        requires order { from ≤ to }
+        requires within { to ≤ length (searched self.now) }
+        ensures run { IsRun (searched self.now) from to result }
+        ensures cost { steps.new ≤ steps.old + 2 * digits (to / 512) + 16 }
+    {
+        let first = from / 512 + 1;
+        let last = to / 512;
+        if last < first {
+            return run_of_bits(&self.bits, from, to, steps);
+        }
+        let left = run_of_bits(&self.bits, from, 512 * first, steps);
+        let blocks = self.blocks(first, last, steps);
+        let right = run_of_bits(&self.bits, 512 * last, to, steps);
+        left.joined(blocks).joined(right)
+    }
+
+    /// The least excess at a place from `from` to `to`, both ends included.
+    pub fn least_between<C: Ledger>(&self, from: usize, to: usize, steps: &mut Steps<C>) -> i64
+        requires order { from ≤ to }
+        requires within { to ≤ length (searched self.now) }
+        ensures least { result ≡ least (excess (searched self.now)) from (to - from) }
+        ensures cost { steps.new ≤ steps.old + 4 * digits (length (searched self.now) + 2) + 40 }
+    {
+        let start = self.excess(from, steps);
+        let run = self.run(from, to, steps);
+        start + (run.least as i64 - 2147483648)
     }
 }

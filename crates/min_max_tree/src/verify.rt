@@ -9,6 +9,7 @@ ghost use Rattle.min_max_tree.specs.Built.{Holds};
 
 use crate::level::Level;
 use crate::node::Node;
+use crate::scan::run_of_bits;
 use bit_words::{BitView, Steps, WordView, WrongEntry};
 use std::sync::ledger::Ledger;
 
@@ -22,21 +23,6 @@ pub fn node_count(len: usize) -> usize
         level = level.above(len);
     }
     level.start + level.size(len)
-}
-
-/// The bits from `from` to before `to`, by one step for each.
-fn run_seen<C: Ledger>(bits: &BitView<'_>, from: usize, to: usize, steps: &mut Steps<C>) -> Node
-    requires few { length (bits_of bits.now) ≤ 2147483647 }
-    requires order { from ≤ to }
-    requires within { to ≤ length (bits_of bits.now) }
-    ensures run { IsRun (bits_of bits.now) from to result }
-    ensures cost { steps.new ≡ steps.old + (to - from) }
-{
-    let mut run = Node::empty();
-    for i in from..to {
-        run = run.with_bit(bits.bit(i, steps));
-    }
-    run
 }
 
 /// Node `j` of the level above `level`, from the nodes below it, by at most two steps.
@@ -76,7 +62,7 @@ fn check_lowest<C: Ledger>(
 {
     let len = bits.len();
     for block in 0..len.div_ceil(512) {
-        let want = run_seen(bits, 512 * block, len.min(512 * (block + 1)), steps).word();
+        let want = run_of_bits(bits, 512 * block, len.min(512 * (block + 1)), steps).word();
         let found = nodes.word(block, steps);
         if found != want {
             return Err(WrongEntry {

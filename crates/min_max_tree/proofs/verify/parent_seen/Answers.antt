@@ -3,7 +3,7 @@ use Rattle.bit_words.specs.BitView.{bits_of}
 use Rattle.bit_words.specs.WordView.{words_of}
 use Rattle.min_max_tree.specs.Tree.{size_at}
 use Rattle.min_max_tree.proofs.Levels.{size-le}
-use Rattle.min_max_tree.proofs.Builds.{left-place, left-small, left-run, right-place, right-run, parent-only, parent-both, join-total, join-least}
+use Rattle.min_max_tree.proofs.Builds.{left-place, left-small, left-run, right-place, right-run, parent-only, parent-both, children-joinable}
 use Rattle.min_max_tree.proofs.verify.parent_seen.Goals as goal
 
 pub overflow_mul-at : goal.overflow_mul-at
@@ -61,25 +61,14 @@ word-requires-2 g c =
     let e = c.requires.size in
     omega arith
 
-pub joined-requires-clause-total : goal.joined-requires-clause-total
-joined-requires-clause-total g c =
+pub joined-requires : goal.joined-requires
+joined-requires g c =
     let bits = (bits_of c.args.bits.now) in
     let h = c.args.level.height in
     let m : size_at (length bits) h ≡ c.size.result = subst (λ n. size_at n h ≡ c.size.result) c.len.ensures (sym c.size.ensures) in
     let there : 2 * c.args.j + 1 < size_at (length bits) h = omega (arith, m, c.if-j-size.false) in
     rw (c.of_word-left.ensures, c.of_word.ensures, c.word.ensures.word, c.word-2.ensures.word)
-    (join-total bits c.requires.few h c.args.j c.requires.within _ _ there
-    (left-run bits c.requires.few c.args.level c.requires.level (words_of c.args.nodes.now) c.requires.holds c.args.j c.requires.within)
-    (right-run bits c.requires.few c.args.level c.requires.level (words_of c.args.nodes.now) c.requires.holds c.args.j c.requires.within there))
-
-pub joined-requires-clause-least : goal.joined-requires-clause-least
-joined-requires-clause-least g c =
-    let bits = (bits_of c.args.bits.now) in
-    let h = c.args.level.height in
-    let m : size_at (length bits) h ≡ c.size.result = subst (λ n. size_at n h ≡ c.size.result) c.len.ensures (sym c.size.ensures) in
-    let there : 2 * c.args.j + 1 < size_at (length bits) h = omega (arith, m, c.if-j-size.false) in
-    rw (c.of_word-left.ensures, c.of_word.ensures, c.word.ensures.word, c.word-2.ensures.word)
-    (join-least bits c.requires.few h c.args.j c.requires.within _ _ there
+    (children-joinable bits c.requires.few h c.args.j c.requires.within _ _ there
     (left-run bits c.requires.few c.args.level c.requires.level (words_of c.args.nodes.now) c.requires.holds c.args.j c.requires.within)
     (right-run bits c.requires.few c.args.level c.requires.level (words_of c.args.nodes.now) c.requires.holds c.args.j c.requires.within there))
 

@@ -1,16 +1,13 @@
-use Rattle.std.proofs.Common.{arith, ◌≡◌, ◌+◌, ◌∙◌, length, ◌<◌}
+use Rattle.std.proofs.Common.{arith, ◌≡◌, ◌∙◌}
 use Rattle.min_max_tree.specs.MinMaxView.{searched}
-use Rattle.bit_words.specs.WordView.{words_of}
 use Rattle.min_max_tree.specs.Tree.{node}
+use Rattle.min_max_tree.proofs.Builds.{child-small}
 use Rattle.min_max_tree.proofs.Nodes.{node-at, word-total, word-least}
 use Rattle.min_max_tree.proofs.tree.MinMaxView.node.Goals as goal
 
 pub overflow_add-level : goal.overflow_add-level
 overflow_add-level g c =
-    let bits = searched c.args.self.now in
-    let level = c.args.level in
-    let r = node-at bits level.height c.args.j c.requires.level.reached c.requires.within in
-    let a : level.start + c.args.j < length (words_of c.args.self.now.nodes) = rw (c.args.self.now.right, c.requires.level.start) r.0 in
+    let s = child-small (searched c.args.self.now) c.args.self.now.few c.args.level c.requires.level c.args.j c.requires.within in
     omega arith
 
 pub word-requires : goal.word-requires

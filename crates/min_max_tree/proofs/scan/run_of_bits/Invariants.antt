@@ -1,0 +1,17 @@
+use Rattle.std.proofs.Common.{◌≡◌, ◌<◌, ◌≤◌, ◌+◌, ◌-◌, ◌/◌, ◌%◌}
+use Rattle.bit_words.specs.BitView.{bits_of}
+use Rattle.min_max_tree.specs.Node.{IsRun}
+use Rattle.min_max_tree.proofs.scan.run_of_bits.Given as goal
+
+abbrev pub invariant-loop-at : goal.invariant-loop-at
+invariant-loop-at g l = record {
+  low : l.from ≤ l.at;
+  high : l.at ≤ l.to;
+  run : IsRun (bits_of l.bits) l.from l.at l.run;
+  first : l.at ≡ l.from → l.steps ≡ l.initial.steps;
+  later : l.from < l.at → l.at < l.to → l.at % 64 ≡ 0;
+  count : l.steps ≤ l.initial.steps + ((l.at + 63) / 64 - l.from / 64);
+}
+
+abbrev pub decreases-loop-at : goal.decreases-loop-at
+decreases-loop-at g l = l.to - l.at
