@@ -1,5 +1,6 @@
 -- As many numbers as parts.
-use Rattle.std.proofs.Common.{◌≡◌, ℕ, zero, suc, ◌*◌, ◌<◌, ◌≤◌, inl, inr, ℤ, true, false, not, List, [], ◌∷◌, map, length, get_or, refl, sym, ap, ◌∙◌, subst, arith}
+use Rattle.std.proofs.Common.{◌≡◌, ℕ, zero, suc, ◌*◌, ◌<◌, ◌≤◌, inl, inr, ℤ, Bool, true, false, not, List, [], ◌∷◌, map, filter, length, get_or, refl, sym, ap, ◌∙◌, subst, arith}
+use Rattle.std.specs.Prelude.{if◌then◌else◌}
 use Rattle.std.proofs.lemmas.Bool.{and_from, cases_Bool, cases_lt, or_cases, or_left, or_right, both_ways}
 use Rattle.topo_base.specs.SignedEdge.{same_edge}
 use Rattle.plane_model.specs.declared.rows.EdgeRow.{EdgeRow}
@@ -8,12 +9,14 @@ use Rattle.plane_model.specs.PlaneMap.{map_of, signed_edges, smallest, ring, rin
 use Rattle.plane_model.specs.Component.{component, components}
 use Rattle.plane_model.specs.Orders.{IsNamed}
 use Rattle.plane_model.proofs.SetLaws.{same_is, same_self}
-use Rattle.plane_model.proofs.Closed.{in_map}
+use Rattle.plane_model.proofs.Closed.{from_filter, in_filter, in_map}
+use Rattle.plane_model.proofs.Returns.{pigeon}
 use Rattle.plane_model.proofs.FaultParts.{same_tests}
-use Rattle.plane_model.proofs.RotationOrbits.{ring_named, rings_counted}
+use Rattle.plane_model.proofs.RotationOrbits.{apart_kept, named, names_counted, ring_named, ring_parts, rings_counted, signed_apart}
 use Rattle.plane_model.proofs.ComponentParts.{component_named, components_counted}
 use Rattle.rotation_check.specs.Darts.{RotationRows, IsRotation, map_of_rotation, signed_edge}
 use Rattle.rotation_check.proofs.DartLists.{dart_edges, dart_place, dart_to_signed, signed_to_dart, signed_there}
+use Rattle.euler_check.specs.Counts.{count_below}
 use Rattle.euler_check.specs.Numbers.{Numbers, AreNumbers}
 use Rattle.euler_check.proofs.Walking.{own_rows}
 
@@ -31,10 +34,12 @@ record NamesBelow (edges : List EdgeRow) (part : ℤ → List ℤ) (of_darts : L
   once : is_distinct_edges names ≡ true
   from : (x : ℤ) → has_edge names x ≡ true → (d : ℕ) × (d < 2 * length edges) × (get_or of_darts d 0 < n) × (x ≡ smallest (signed_edge edges d) (part (signed_edge edges d)))
   into : (d : ℕ) → d < 2 * length edges → get_or of_darts d 0 < n → has_edge names (smallest (signed_edge edges d) (part (signed_edge edges d))) ≡ true
+  passing : (p : ℤ → Bool) (q : ℕ → Bool) → ((d : ℕ) → d < 2 * length edges → p (smallest (signed_edge edges d) (part (signed_edge edges d))) ≡ q (get_or of_darts d 0)) → length (filter p names) ≡ count_below n q
 
 module _ (edges : List EdgeRow) (us : List ℤ) (part : ℤ → List ℤ) (named : IsNamed us part) (there : (d : ℕ) → d < 2 * length edges → has_edge us (signed_edge edges d) ≡ true) (numbers : Numbers) (are : AreNumbers edges part numbers) where
   names_below : (n : ℕ) → n ≤ numbers.count → NamesBelow edges part numbers.of_darts n
-  names_below zero h = record { names = []; size = refl; once = refl; from = λ x on. absurd (both_ways false refl on); into = λ d q lt. absurd (omega arith) }
+  unfolding count_below
+  names_below zero h = record { names = []; size = refl; once = refl; from = λ x on. absurd (both_ways false refl on); into = λ d q lt. absurd (omega arith); passing = λ p q same. refl }
   names_below (suc n) h =
       let before = names_below n (omega arith) in
       let first = are.first n (omega arith) in
@@ -68,7 +73,15 @@ module _ (edges : List EdgeRow) (us : List ℤ) (part : ℤ → List ℤ) (named
               let one = named.same (signed_edge edges first.0) (signed_edge edges d) (there first.0 within) on in
               or_left _ _ (subst (λ z. same_edge z name ≡ true) (sym one) (same_self name))
         ];
+        passing = λ p q same.
+            let more = before.passing p q same in
+            let here : p name ≡ q n = same first.0 within ∙ ap q has in
+            one_more p name before.names (q n) (count_below n q) here more;
       }
+    where
+      one_more : (p : ℤ → Bool) (x : ℤ) (xs : List ℤ) (b : Bool) (k : ℕ) → p x ≡ b → length (filter p xs) ≡ k → length (filter p (x ∷ xs)) ≡ (if b then suc k else k)
+      one_more p x xs true k e more = rw e (ap suc more)
+      one_more p x xs false k e more = rw e more
 
 module _ (r : RotationRows) (is : IsRotation r) where
   darts_all : (d : ℤ) → has_edge (dart_edges r.edges) d ≡ has_edge (signed_edges (map_of (own_rows r))) d
@@ -86,6 +99,24 @@ module _ (r : RotationRows) (is : IsRotation r) where
       let e = image_back (λ d. smallest d (part d)) (dart_edges r.edges) x on in
       let d = dart_place (own_rows r) e.0 (dart_to_signed (own_rows r) e.0 e.1) in
       subst (λ z. has_edge all.names z ≡ true) (ap (λ z. smallest z (part z)) d.2 ∙ sym e.2) (all.into d.0 d.1 (are.below d.0 d.1)))
+
+  -- as many rings pass as numbers of rings
+  pub rings_passing : (numbers : Numbers) → AreNumbers r.edges (ring (map_of_rotation r)) numbers → (p : ℤ → Bool) (q : ℕ → Bool)
+      → ((d : ℕ) → d < 2 * length r.edges → p (smallest (signed_edge r.edges d) (ring (map_of_rotation r) (signed_edge r.edges d))) ≡ q (get_or numbers.of_darts d 0)) → length (filter p (rings (map_of_rotation r))) ≡ count_below numbers.count q
+  unfolding named
+  rings_passing numbers are p q same =
+      let us = signed_edges (map_of_rotation r) in
+      let part = ring (map_of_rotation r) in
+      let all = names_below r.edges us part (ring_named (own_rows r) is.rotation) (signed_there (own_rows r)) numbers are numbers.count (omega arith) in
+      let apart = apart_kept (λ d. same_edge d (smallest d (part d))) us (signed_apart (map_of_rotation r) is.rotation) in
+      let members = (names_counted us part (ring_parts (own_rows r) is.rotation) apart (dart_edges r.edges) all.names darts_all all.once (names_are part numbers are all)).0 in
+      as_many_pass p (rings (map_of_rotation r)) all.names apart all.once (λ x. sym (members x)) ∙ all.passing p q same
+    where
+      half : (p : ℤ → Bool) (xs ys : List ℤ) → is_distinct_edges xs ≡ true → ((x : ℤ) → has_edge xs x ≡ has_edge ys x) → length (filter p xs) ≤ length (filter p ys)
+      half p xs ys apart members = pigeon (filter p xs) (filter p ys) (apart_kept p xs apart) (λ x on. let a = from_filter p xs x on in in_filter p ys x a.0 (sym (members x) ∙ a.1))
+
+      as_many_pass : (p : ℤ → Bool) (xs ys : List ℤ) → is_distinct_edges xs ≡ true → is_distinct_edges ys ≡ true → ((x : ℤ) → has_edge xs x ≡ has_edge ys x) → length (filter p xs) ≡ length (filter p ys)
+      as_many_pass p xs ys xs_apart ys_apart members = let a = half p xs ys xs_apart members in let b = half p ys xs ys_apart (λ x. sym (members x)) in omega arith
 
   pub as_many_rings : (numbers : Numbers) → AreNumbers r.edges (ring (map_of_rotation r)) numbers → numbers.count ≡ length (rings (map_of_rotation r))
   as_many_rings numbers are =

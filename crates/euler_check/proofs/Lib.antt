@@ -2,3 +2,8 @@ pub mod Walking
 pub mod Numbered
 pub mod Counted
 pub mod Flooding
+pub mod Counting
+pub mod ComponentCounts
+pub mod LeastFailing
+pub mod PartsAre
+pub mod Lengths

@@ -1,0 +1,43 @@
+//! A dart of each ring, and of each node.
+
+ghost use Rattle.std.specs.Prelude.{◌*◌, ◌<◌, ◌^◌, IfOk, OnOk, length};
+ghost use Rattle.plane_model.specs.PlaneMap.{ring};
+ghost use Rattle.rotation_check.specs.Darts.{IsRotation, map_of_rotation};
+ghost use Rattle.euler_check.specs.Counts.{ArePlaces, HasNumber, LeavesRow};
+ghost use Rattle.euler_check.specs.Numbers.{AreNumbers};
+
+use crate::marks::no_numbers;
+use crate::numbering::Numbering;
+use rotation_check::Rotation;
+use std::alloc::{AllocError, Global};
+
+/// A dart of each ring, by the ring's number.
+pub fn darts_of_rings(
+    alloc: Global,
+    rotation: &Rotation,
+    rings: &Numbering,
+) -> Result<Vec<Option<u32>>, AllocError>
+    requires { AreNumbers rotation.now.edges (ring (map_of_rotation rotation.now)) rings.now }
+    ensures places { IfOk result (λ darts. ArePlaces (HasNumber rings.now) rings.now.count (2 * length rotation.now.edges) darts.items) }
+    ensures few { IfOk result (λ darts. length darts.items < 2 ^ 32) }
+    ensures rotation { OnOk result (IsRotation rotation.now) }
+{
+    let mut darts = no_numbers(alloc, rings.count())?;
+    for dart in 0..2 * rotation.edges() {
+        darts[rings.number(dart) as usize] = Some(dart);
+    }
+    Ok(darts)
+}
+
+/// A dart that leaves each node, by the node's row; none leaves an isolated node.
+pub fn darts_of_nodes(alloc: Global, rotation: &Rotation) -> Result<Vec<Option<u32>>, AllocError>
+    ensures places { IfOk result (λ darts. ArePlaces (LeavesRow rotation.now) (length rotation.now.nodes) (2 * length rotation.now.edges) darts.items) }
+    ensures few { IfOk result (λ darts. length darts.items < 2 ^ 32) }
+    ensures rotation { OnOk result (IsRotation rotation.now) }
+{
+    let mut darts = no_numbers(alloc, rotation.nodes())?;
+    for dart in 0..2 * rotation.edges() {
+        darts[rotation.node(dart) as usize] = Some(dart);
+    }
+    Ok(darts)
+}
