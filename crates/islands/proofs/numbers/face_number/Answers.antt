@@ -1,0 +1,15 @@
+use Rattle.std.proofs.Common.{rules, ◌≡◌, ◌≤◌, get_or, arith, Ok, Err}
+use Rattle.islands.proofs.FaceNumbers.{found_at, not_missing, place_below}
+use Rattle.islands.proofs.numbers.face_number.Goals as goal
+
+pub overflow_cast-result : goal.overflow_cast-result
+overflow_cast-result c =
+    let ids = c.args.ids.now in
+    let at = found_at ids c.args.face (Ok c.in-Ok.place) c.requires.rising c.in-Ok.ensures.position in
+    let is : get_or ids c.in-Ok.place 0 ≡ c.args.face = at.1 in
+    let le : c.in-Ok.place ≤ get_or ids c.in-Ok.place 0 = place_below ids c.requires.rising c.in-Ok.place at.0 in
+    let small : c.in-Ok.place ≤ c.args.face = omega arith in
+    search rules
+
+pub unreachable-requires : goal.unreachable-requires
+unreachable-requires c = not_missing c.args.ids.now c.args.face c.in-Err.field-0 c.requires.there (found_at c.args.ids.now c.args.face (Err c.in-Err.field-0) c.requires.rising c.in-Err.ensures.position)

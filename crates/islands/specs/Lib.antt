@@ -1,0 +1,9 @@
+pub mod Lists
+pub mod Rounds
+pub mod Numbered
+pub mod Starts
+pub mod Darts
+pub mod Rising
+pub mod Places
+pub mod Placed
+pub mod MapNumbers

@@ -1,0 +1,67 @@
+//! The smallest dart of each ring and of each component.
+
+ghost use Rattle.std.specs.Prelude.{◌≡◌, ◌<◌, IfOk, OnOk, length};
+ghost use Rattle.plane_model.specs.PlaneMap.{ring, rings};
+ghost use Rattle.plane_model.specs.Component.{component, components};
+ghost use Rattle.rotation_check.specs.Darts.{IsRotation, map_of_rotation};
+ghost use Rattle.euler_check.specs.Numbers.{AreNumbers};
+ghost use Rattle.islands.specs.Darts.{AreDartsOf};
+ghost use Rattle.islands.specs.Rising.{IsFirstAdded};
+
+use crate::rising::rising_darts;
+use euler_check::Parts;
+use rotation_check::Rotation;
+use std::alloc::{AllocError, Global};
+
+/// The smallest dart of each ring and of each component, in the order of their signed edges.
+#[derive(Drop)]
+pub struct LeastDarts {
+    pub rings: Vec<u32>,
+    pub components: Vec<u32>,
+}
+
+/// Appends a dart where nothing with its number was seen.
+fn add_first(
+    dart: u32,
+    number: u32,
+    seen: &mut Vec<bool>,
+    firsts: &mut Vec<u32>,
+) -> Result<(), AllocError>
+    requires { number < length seen.old.items }
+    ensures { OnOk result (IsFirstAdded dart number seen.old.items seen.new.items firsts.old.items firsts.new.items) }
+{
+    if !seen[number as usize] {
+        firsts.push(dart)?;
+        seen[number as usize] = true;
+    }
+    Ok(())
+}
+
+/// The first darts of rings and components in the order of signed edges, which are their smallest.
+pub fn least_darts(
+    alloc: Global,
+    rotation: &Rotation,
+    parts: &Parts,
+) -> Result<LeastDarts, AllocError>
+    requires rings { AreNumbers rotation.now.edges (ring (map_of_rotation rotation.now)) parts.now.rings }
+    requires components { AreNumbers rotation.now.edges (component (map_of_rotation rotation.now)) parts.now.components }
+    ensures rotation { OnOk result (IsRotation rotation.now) }
+    ensures rings { IfOk result (λ least. AreDartsOf rotation.now.edges (rings (map_of_rotation rotation.now)) least.rings.items) }
+    ensures components { IfOk result (λ least. AreDartsOf rotation.now.edges (components (map_of_rotation rotation.now)) least.components.items) }
+{
+    let darts = rising_darts(alloc, rotation)?;
+    let mut seen_rings = vec![in alloc; false; parts.rings() as usize]?;
+    let mut seen_components = vec![in alloc; false; parts.components() as usize]?;
+    let mut rings = Vec::new(alloc);
+    let mut components = Vec::new(alloc);
+    for dart in &darts {
+        add_first(*dart, parts.ring_of(*dart), &mut seen_rings, &mut rings)?;
+        add_first(
+            *dart,
+            parts.component_of(*dart),
+            &mut seen_components,
+            &mut components,
+        )?;
+    }
+    Ok(LeastDarts { rings, components })
+}
