@@ -10,3 +10,8 @@ pub mod Open
 pub mod RotationDarts
 pub mod ComponentDarts
 pub mod Unique
+pub mod Listing
+pub mod WalkPairs
+pub mod EulerCount
+pub mod PlaneTour
+pub mod OneRing

@@ -218,7 +218,7 @@ place_in ps (suc k) p b h = elim (cases_lt p (ps k)) [
   | inr l ↦ (k, omega arith, l, rw add-one h)
 ]
 
-places_up : (ps : ℕ → ℕ) (k : ℕ) → ((i : ℕ) → i < k → ps i < ps (i + 1)) → (i : ℕ) → i ≤ k → ps i ≤ ps k
+pub places_up : (ps : ℕ → ℕ) (k : ℕ) → ((i : ℕ) → i < k → ps i < ps (i + 1)) → (i : ℕ) → i ≤ k → ps i ≤ ps k
 places_up ps zero up i h = let e : i ≡ 0 = omega arith in rw e (omega arith)
 places_up ps (suc k) up i h = elim (cases_eq i (suc k)) [
   | inl e ↦ rw e (omega arith)

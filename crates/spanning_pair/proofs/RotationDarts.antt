@@ -19,7 +19,6 @@ use Rattle.plane_model.proofs.Orbits.{orbit_own, orbit_same}
 use Rattle.plane_model.proofs.RotationOrbits.{next_permutes, turn_permutes}
 use Rattle.plane_model.proofs.SetLaws.{same_is, same_self, among}
 use Rattle.plane_model.proofs.Sorting as sorting
-use Rattle.rotation_check.specs.Darts as rotation
 use Rattle.rotation_check.specs.Darts.{RotationRows, IsRotation, map_of_rotation, node_id, signed_edge}
 use Rattle.rotation_check.proofs.DartLists.{dart_place, signed_there}
 use Rattle.rotation_check.proofs.EndLemmas.{one_place, node_id-get, edge_id-get}
@@ -28,7 +27,7 @@ use Rattle.spanning_pair.specs.Darts.{reverse_dart, turned, IsDartSystem}
 use Rattle.spanning_pair.specs.Darts as darts
 use Rattle.spanning_pair.specs.Rotations.{place_of, dart_of, next_dart, node_row}
 use Rattle.spanning_pair.specs.Tours.{IsNumberedSystem}
-use Rattle.spanning_pair.proofs.OtherDart.{reverse_below}
+use Rattle.spanning_pair.proofs.OtherDart.{reverse_below, same_reverse}
 
 -- places in a list without repetition
 pub place_at : (xs : List ℕ) → is_distinct xs ≡ true → (i : ℕ) → i < length xs → place_of xs (get_or xs i 0) ≡ i
@@ -63,13 +62,6 @@ unfolding dart_of
 dart_is edges d dart half way = elim (cases_eq (dart % 2) 0) [
   | inl e ↦ rw (way, half, eq-eqb (dart % 2) 0 e) (omega arith)
   | inr ne ↦ rw (way, half, ne_eqb (dart % 2) 0 ne) (omega arith)
-]
-
-same_reverse : (dart : ℕ) → reverse_dart dart ≡ rotation.reverse_dart dart
-unfolding reverse_dart
-same_reverse dart = elim (cases_eq (dart % 2) 0) [
-  | inl e ↦ rw (eq-eqb (dart % 2) 0 e) (omega arith)
-  | inr ne ↦ rw (ne_eqb (dart % 2) 0 ne) (omega arith)
 ]
 
 pub reverse_signed : (edges : List EdgeRow) (k : ℕ) → signed_edge edges (reverse_dart k) ≡ reverse (signed_edge edges k)
@@ -174,7 +166,7 @@ module _ (r : RotationRows) (is : IsRotation r) where
   node_signed k h =
       (row_there k h, node_id-get r.nodes (node_row r k) ∙ (place_there (map (λ n. n.id) r.nodes) (origin (map_of_rotation r) (signed_edge r.edges k)) (node_there k h)).1)
 
-  same_origin : (j k : ℕ) → j < 2 * length r.edges → k < 2 * length r.edges → node_row r j ≡ node_row r k → origin (map_of_rotation r) (signed_edge r.edges j) ≡ origin (map_of_rotation r) (signed_edge r.edges k)
+  pub same_origin : (j k : ℕ) → j < 2 * length r.edges → k < 2 * length r.edges → node_row r j ≡ node_row r k → origin (map_of_rotation r) (signed_edge r.edges j) ≡ origin (map_of_rotation r) (signed_edge r.edges k)
   unfolding node_row
   same_origin j k h q e =
       sym (place_there (map (λ n. n.id) r.nodes) (origin (map_of_rotation r) (signed_edge r.edges j)) (node_there j h)).1

@@ -1,9 +1,10 @@
 -- Darts, rotation systems and components. Edge i has the darts 2 * i and 2 * i + 1.
-use Rattle.std.specs.Prelude.{◌≡◌, ℕ, ◌+◌, ◌-◌, ◌*◌, ◌/◌, ◌%◌, ◌<◌, zero, suc}
+use Rattle.std.specs.Prelude.{◌≡◌, ℕ, ◌*◌, ◌<◌, zero, suc}
+use Rattle.rotation_check.specs.Darts as rotation
 
 -- the other dart of the edge
 unfoldable pub reverse_dart : ℕ → ℕ
-reverse_dart d = 2 * (d / 2) + (1 - d % 2)
+reverse_dart d = rotation.reverse_dart d
 
 -- the next dart among those that leave the same node
 abbrev pub turn : (ℕ → ℕ) → ℕ → ℕ

@@ -1,20 +1,24 @@
 //! The walk round a spanning tree of each component of a rotation system.
 #![tactic(auto)]
 
-ghost use Rattle.std.specs.Prelude.{◌≡◌, ℕ, ◌+◌, ◌*◌, ◌/◌, ◌<◌, ◌≤◌, length, cond, not, IfOk, IfErr, OnOk, MatchOption, Bool};
-ghost use Rattle.rotation_check.specs.Darts.{IsRotation};
+ghost use Rattle.std.specs.Prelude.{◌≡◌, ℕ, ◌+◌, ◌*◌, ◌/◌, ◌<◌, ◌≤◌, length, cond, not, IfOk, IfErr, OnOk, IsTrue, MatchOption, Bool};
+ghost use Rattle.plane_model.specs.Component.{is_plane};
+ghost use Rattle.rotation_check.specs.Darts.{IsRotation, map_of_rotation};
 ghost use Rattle.spanning_pair.specs.Crossings.{ArePairs, OthersNest, IsFirstCrossing};
 ghost use Rattle.spanning_pair.specs.Darts.{reverse_dart};
 ghost use Rattle.spanning_pair.specs.Faults.{IsTourFault};
+ghost use Rattle.spanning_pair.specs.declared.TourFault.TheVariants as faults;
 ghost use Rattle.spanning_pair.specs.Rotations.{next_dart, node_row, AreComponentStarts};
 ghost use Rattle.spanning_pair.specs.Tours.{number_at, flag_at, AreClean, AreMarked, IsNumberedSystem, IsWalkAppended, IsTour, IsTheTour};
 ghost use Rattle.spanning_pair.specs.Walks.{after};
 
-use rotation_check::Rotation;
+use rotation_check::{Rotation, reversed};
 use std::alloc::{AllocError, Global};
 use topo_base::IdNumber;
 
 pub mod laws;
+#[cfg(test)]
+mod path_tests;
 mod places;
 #[cfg(test)]
 mod tests;
@@ -30,13 +34,6 @@ pub enum TourFault {
     Memory,
 }
 
-/// The other dart of the edge.
-fn reverse(dart: u32) -> u32
-    ensures { result ≡ reverse_dart dart }
-{
-    if dart % 2 == 0 { dart + 1 } else { dart - 1 }
-}
-
 /// The row of the node that a dart enters.
 fn head_row(rotation: &Rotation, dart: u32) -> u32
     requires rotation { IsRotation rotation.now }
@@ -44,7 +41,7 @@ fn head_row(rotation: &Rotation, dart: u32) -> u32
     ensures within { result < length rotation.now.nodes }
     ensures head { result ≡ node_row rotation.now (reverse_dart dart) }
 {
-    rotation.node(reverse(dart))
+    rotation.node(reversed(dart))
 }
 
 /// The row of the node that a dart leaves.
@@ -170,7 +167,7 @@ fn crossing(
             if first[place] {
                 open.push(place)?;
             } else if let Some(top) = open.pop() {
-                if darts[top] != reverse(darts[place]) {
+                if darts[top] != reversed(darts[place]) {
                     return Ok(Some(darts[place]));
                 }
             }
@@ -184,7 +181,9 @@ pub fn tour(alloc: Global, rotation: &Rotation, starts: &[u32]) -> Result<Tour, 
     requires starts { AreComponentStarts rotation.now starts.now }
     ensures tour { IfOk result (λ t. IsTheTour (length rotation.now.edges) (next_dart rotation.now) (node_row rotation.now) starts.now t.darts.items t.tree.items t.first.items t.starts.items) }
     ensures nested { IfOk result (λ t. OthersNest (number_at t.darts.items) (flag_at t.tree.items) (length t.darts.items)) }
+    ensures plane { IfOk result (λ t. IsTrue (is_plane (map_of_rotation rotation.now))) }
     ensures fault { IfErr result (IsTourFault rotation.now starts.now) }
+    ensures never_crossed { IsTrue (is_plane (map_of_rotation rotation.now)) → IfErr result (λ e. e ≡ faults.Memory) }
 {
     let Ok(tour) = walks(alloc, rotation, starts) else {
         return Err(TourFault::Memory);

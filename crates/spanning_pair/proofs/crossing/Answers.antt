@@ -1,5 +1,6 @@
 use Rattle.std.proofs.Common.{◌≡◌, ℕ, ◌+◌, List, Bool, length, vec_len, refl, subst, sym, ◌∙◌, arith}
 use Rattle.spanning_pair.specs.Tours.{number_at, flag_at}
+use Rattle.spanning_pair.proofs.OtherDart.{same_reverse}
 use Rattle.spanning_pair.proofs.Open.{AreOpen, open_tree, open_first, open_second, open_crossed, some_open}
 use Rattle.spanning_pair.proofs.crossing.Goals as goal
 use Rattle.spanning_pair.proofs.crossing.Goals.{then-not-tree-place+then-first-place+in_ok-push, then-not-tree-place+else-first-place+in-Some+else-darts-top, then-not-tree-place+else-first-place+in_default, else-not-tree-place}
@@ -9,7 +10,7 @@ returns-then-darts-top c =
     let a = subst (AreOpen (number_at c.args.darts.now) (flag_at c.args.tree.now) c.loop-place.place) c.in-Some.ensures.items c.loop-place.invariant in
     open_crossed (number_at c.args.darts.now) (flag_at c.args.tree.now) (flag_at c.args.first.now) (length c.args.darts.now) c.requires.pairs
     c.loop-place.place c.loop-place-test.true c.if-not-tree-place.true c.if-first-place.false c.pop.new.self.items c.in-Some.top a
-    (λ e. c.if-darts-top.true (e ∙ sym c.reverse.ensures)) (number_at c.args.darts.now c.loop-place.place) refl
+    (λ e. c.if-darts-top.true (e ∙ same_reverse (number_at c.args.darts.now c.loop-place.place) ∙ sym c.reversed.ensures)) (number_at c.args.darts.now c.loop-place.place) refl
 
 pub loop-place-preserved : goal.loop-place-preserved
 loop-place-preserved c =
@@ -25,7 +26,7 @@ loop-place-preserved c =
       | then-not-tree-place+else-first-place+in-Some+else-darts-top w ↦ rw w.open-is
           (let a = subst (AreOpen (number_at c.args.darts.now) (flag_at c.args.tree.now) c.loop-place.place) w.in-Some.ensures.items c.loop-place.invariant in
           open_second D T F n c.requires.pairs c.loop-place.place c.loop-place-test.true w.if-not-tree-place.true w.if-first-place.false
-          w.pop.new.self.items w.in-Some.top a (w.if-darts-top.false ∙ w.reverse.ensures))
+          w.pop.new.self.items w.in-Some.top a (w.if-darts-top.false ∙ w.reversed.ensures ∙ sym (same_reverse (number_at c.args.darts.now c.loop-place.place))))
       | then-not-tree-place+else-first-place+in_default w ↦
           let k = some_open D T F n c.requires.pairs c.loop-place.place c.loop-place-test.true w.if-not-tree-place.true w.if-first-place.false
           c.loop-place.open.items c.loop-place.invariant in
