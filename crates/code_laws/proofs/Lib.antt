@@ -1,0 +1,16 @@
+pub mod Walks
+pub mod Apart
+pub mod Places
+pub mod Steps
+pub mod Closers
+pub mod Sound
+pub mod Mates
+pub mod Edges
+pub mod Firsts
+pub mod Beside
+pub mod Turned
+pub mod Backs
+pub mod Numbered
+pub mod Counted
+pub mod Selects
+pub mod Stacks

@@ -1,0 +1,31 @@
+-- Walks over positions, and the positions with one number.
+use Rattle.std.specs.Prelude.{ℕ, zero, suc, ◌==◌, Bool, true, false, ◌&&◌, if◌then◌else◌, List, [], ◌∷◌, ◌++◌, ◌-◌, filter, length, Option, Some, None}
+use Rattle.std.specs.List.{range_with_len}
+use Rattle.code_laws.specs.Code.{Code, positions, component_of, step}
+use Rattle.code_laws.specs.Numbers.{pair_round}
+
+-- p, f p, f (f p) and so on up to the first return to `first`: the first n of these
+unfoldable pub walk : ℕ → (ℕ → ℕ) → ℕ → ℕ → List ℕ
+walk zero f first p = []
+walk (suc n) f first p = let more = walk n f first (f p) in p ∷ (if f p == first then [] else more)
+
+abbrev pub orbit : Code → Bool → ℕ → List ℕ
+orbit c kind p = walk (length c.a) (step c kind) p p
+
+abbrev pub same_number : Option ℕ → Option ℕ → Bool
+same_number None None = true
+same_number None (Some j) = false
+same_number (Some i) None = false
+same_number (Some i) (Some j) = i == j
+
+-- whether two positions have the same pair of a kind round their gaps, or none in the same component
+abbrev pub is_beside : Code → Bool → ℕ → ℕ → Bool
+is_beside c kind p q = (component_of c p == component_of c q) && same_number (pair_round c kind p) (pair_round c kind q)
+
+-- the positions beside p, rising
+abbrev pub beside : Code → Bool → ℕ → List ℕ
+beside c kind p = filter (is_beside c kind p) (positions c)
+
+-- the positions from p on to the last, and then from the first to before p
+abbrev pub from_on : Code → ℕ → List ℕ
+from_on c p = range_with_len p (length c.a - p) ++ range_with_len 0 p
