@@ -1,0 +1,29 @@
+use Rattle.std.proofs.Common.{◌≡◌, ◌<◌, ◌≤◌, ◌+◌, ◌-◌, ◌*◌, Bool, true, false, List, length, refl, ap, sym, ◌∙◌, subst, arith, Some, None}
+use Rattle.bit_words.specs.Bits.{rank, select}
+use Rattle.parens.specs.Matching.{is_open, mate_of, innermost}
+use Rattle.code_laws.specs.Code.{parens, place, over, step, step_back, after, before, start_of, end_of, component_count}
+use Rattle.code_laws.specs.Numbers.{tree_edges, edge_of, opening_position, one_on, node_count}
+use Rattle.bit_words.specs.Digits.{digits}
+use Rattle.bit_words.proofs.DigitLaws.{digits-mono}
+use Rattle.code_laws.specs.declared.ring_number.RingNumber.TheVariants.{Outer, Shell}
+use Rattle.code_laws.proofs.Sound.{sound_parts}
+use Rattle.code_laws.proofs.Backs.{step_laws}
+use Rattle.turan_code.specs.TuranView.{code_of_view}
+use Rattle.turan_code.proofs.Views.{chosen, chosen_within, digits_fewer, place_le, place_lt, mate_found, mate_there, mate_within, few_components, component_there, begins_at_zero, ends_with_all, component_found, first_found, edge_found, edge_below, round_found, round_none, node_found, root_found, shell_found, outer_found, pair_below, node_below, opening_found, opening_missing, edge_first, edge_later, edge_missing, root_first, node_first, node_missing, shell_first, shell_missing}
+use Rattle.turan_code.proofs.view.TuranView.ring_of.Goals as goal
+
+pub overflow_cast-result : goal.overflow_cast-result
+overflow_cast-result g c =
+    let v = c.args.self.now in
+    let below = pair_below (code_of_view v) v.sound false c.args.p c.in-Some.pair c.requires (sym c.in-Some.is ∙ c.pair_round.ensures.pair) in
+    omega (arith, v.few, below)
+
+pub returns-in-Some-clause-ring : goal.returns-in-Some-clause-ring
+returns-in-Some-clause-ring g c =
+    let v = c.args.self.now in
+    shell_found (code_of_view v) v.sound c.args.p c.in-Some.pair (sym c.in-Some.is ∙ c.pair_round.ensures.pair)
+
+pub returns-in-None-clause-ring : goal.returns-in-None-clause-ring
+returns-in-None-clause-ring g c =
+    let v = c.args.self.now in
+    ap Outer c.component_of.ensures.component ∙ outer_found (code_of_view v) v.sound c.args.p (sym c.in-None.is ∙ c.pair_round.ensures.pair)

@@ -1,0 +1,2 @@
+pub mod TuranView
+pub mod Sequences

@@ -1,0 +1,487 @@
+ghost use Rattle.std.specs.Prelude.{◌≡◌, ◌≤◌, length, IsTrue};
+ghost use Rattle.rank_select.specs.RankView.{counted};
+ghost use Rattle.parens.specs.ParenView.{parens_of};
+ghost use Rattle.bit_words.specs.PackedView.{fields_of};
+ghost use Rattle.code_laws.specs.Code.{code_with};
+ghost use Rattle.code_laws.specs.SeqFault.{is_sound};
+
+use bit_words::{PackedView, Steps};
+use code_laws::RingNumber;
+use parens::ParenView;
+use rank_select::RankView;
+use std::sync::ledger::Ledger;
+
+/// The sequences of a code, and the starts of its components.
+#[derive(Clone, Copy)]
+pub struct TuranParts<'a> {
+    /// One bit for each position: whether its edge is one of the spanning trees.
+    pub a: RankView<'a>,
+    /// One bit for each position of an edge of the trees: whether it is the first of its edge.
+    pub tree: ParenView<'a>,
+    /// The same for each other position.
+    pub dual: ParenView<'a>,
+    /// The first position of each component, and in the end the number of positions.
+    pub starts: PackedView<'a>,
+}
+
+/// A sound code: a plane map without its ids, with one position for each signed edge.
+#[derive(Clone, Copy)]
+pub struct TuranView<'a> {
+    parts: TuranParts<'a>,
+    ghost few: { length (counted parts.a) ≤ 2147483647 },
+    ghost sound: { IsTrue (is_sound (code_with (counted parts.a) (parens_of parts.tree) (parens_of parts.dual) (fields_of parts.starts))) },
+}
+
+impl<'a> TuranView<'a> {
+    ghost use Rattle.std.specs.Prelude.{◌≡◌, ◌≢◌, ◌<◌, ◌≤◌, ◌+◌, ◌-◌, ◌*◌, ◌==◌, ◌↔◌, length, true, false, Bool, IsTrue, IsNone, IfSome, Some, None, nat_lt, if◌then◌else◌, slice_index};
+    ghost use Rattle.bit_words.specs.Digits.{digits};
+    ghost use Rattle.bit_words.specs.Bits.{select};
+    ghost use Rattle.parens.specs.Matching.{mate_of, is_open};
+    ghost use Rattle.code_laws.specs.Code.{is_tree, is_first, parens, place, mate, component_of, component_count, start_of, end_of, after, before, turn, next, turn_back, next_back, over, step, step_back};
+    ghost use Rattle.code_laws.specs.Numbers.{tree_edges, edge_of, node_of, ring_of, pair_round, first_of_edge, first_of_node, first_of_shell, opening_position, one_on, edge_count, node_count, shell_count};
+    ghost use Rattle.code_laws.specs.SeqFault.{is_sound};
+    ghost use Rattle.turan_code.specs.TuranView.{code_of_parts, code_of_view};
+
+    /// The code of these parts, which `check` finds sound. No word is read.
+    pub fn new(parts: TuranParts<'a>) -> TuranView<'a>
+        requires few { length (code_of_parts parts).a ≤ 2147483647 }
+        requires sound { IsTrue (is_sound (code_of_parts parts)) }
+        ensures { code_of_view result ≡ code_of_parts parts.entry }
+    {
+        TuranView { parts }
+    }
+
+    /// Whether the edge at a position is one of the trees.
+    fn is_tree<C: Ledger>(&self, p: usize, steps: &mut Steps<C>) -> bool
+        requires { p < length (code_of_view self.now).a }
+        ensures kind { result ≡ is_tree (code_of_view self.now) p }
+        ensures one_step { steps.new ≡ steps.old + 1 }
+    {
+        self.parts.a.bits().bit(p, steps)
+    }
+
+    /// The parentheses of one kind of edges: those of the trees, or the others.
+    fn parens(&self, kind: bool) -> ParenView<'a>
+        ensures parens { parens_of result ≡ parens (code_of_view self.now) kind }
+        ensures fewer { digits (length (parens_of result) + 2) ≤ digits (length (code_of_view self.now).a + 2) }
+    {
+        if kind {
+            self.parts.tree
+        } else {
+            self.parts.dual
+        }
+    }
+
+    /// How many positions of one kind stand before position `p`.
+    fn place<C: Ledger>(&self, kind: bool, p: usize, steps: &mut Steps<C>) -> usize
+        requires { p ≤ length (code_of_view self.now).a }
+        ensures place { result ≡ place (code_of_view self.now) kind p }
+        ensures within { result ≤ length (parens (code_of_view self.now) kind) }
+        ensures cost { steps.new ≤ steps.old + 9 }
+    {
+        if kind {
+            self.parts.a.rank1(p, steps)
+        } else {
+            self.parts.a.rank0(p, steps)
+        }
+    }
+
+    /// The place of position `p`, which is of this kind, among the parentheses of the kind.
+    fn place_of<C: Ledger>(&self, kind: bool, p: usize, steps: &mut Steps<C>) -> usize
+        requires within { p < length (code_of_view self.now).a }
+        requires kind { is_tree (code_of_view self.now) p ≡ kind }
+        ensures place { result ≡ place (code_of_view self.now) kind p }
+        ensures within { result < length (parens (code_of_view self.now) kind) }
+        ensures cost { steps.new ≤ steps.old + 9 }
+    {
+        self.place(kind, p, steps)
+    }
+
+    /// The position of place `q` of one kind, or None where there is no such place.
+    fn position<C: Ledger>(&self, kind: bool, q: usize, steps: &mut Steps<C>) -> Option<usize>
+        ensures position { result ≡ select kind (code_of_view self.now).a q }
+        ensures within { IfSome result (λ p. p < length (code_of_view self.now).a) }
+        ensures cost { steps.new ≤ steps.old + 3 * digits (length (code_of_view self.now).a + 2) + 10 }
+    {
+        if kind {
+            self.parts.a.select1(q, steps)
+        } else {
+            self.parts.a.select0(q, steps)
+        }
+    }
+
+    /// The position that opens pair `pair` of one kind, or None where there is no such pair.
+    fn opening_position<C: Ledger>(
+        &self,
+        kind: bool,
+        pair: usize,
+        steps: &mut Steps<C>,
+    ) -> Option<usize>
+        ensures position { result ≡ opening_position (code_of_view self.now) kind pair }
+        ensures within { IfSome result (λ p. p < length (code_of_view self.now).a) }
+        ensures cost { steps.new ≤ steps.old + 6 * digits (length (code_of_view self.now).a + 2) + 20 }
+    {
+        match self.parens(kind).open_at(pair, steps) {
+            Some(place) => self.position(kind, place, steps),
+            None => None,
+        }
+    }
+
+    /// The position after the one that opens pair `pair` of one kind, or None where there is no such pair.
+    fn reached_from<C: Ledger>(
+        &self,
+        kind: bool,
+        pair: usize,
+        steps: &mut Steps<C>,
+    ) -> Option<usize>
+        ensures position { result ≡ one_on (opening_position (code_of_view self.now) kind pair) }
+        ensures cost { steps.new ≤ steps.old + 6 * digits (length (code_of_view self.now).a + 2) + 20 }
+    {
+        match self.opening_position(kind, pair, steps) {
+            Some(position) => Some(position + 1),
+            None => None,
+        }
+    }
+
+    /// How many edges the trees have. No word is read.
+    fn tree_edges(&self) -> usize
+        ensures { result ≡ tree_edges (code_of_view self.now) }
+    {
+        self.parts.tree.len() / 2
+    }
+
+    /// How many components there are. No word is read.
+    fn components(&self) -> usize
+        ensures { result ≡ component_count (code_of_view self.now) }
+    {
+        self.parts.starts.count() - 1
+    }
+
+    /// Entry `component` of the starts.
+    fn start<C: Ledger>(&self, component: usize, steps: &mut Steps<C>) -> usize
+        requires { component ≤ component_count (code_of_view self.now) }
+        ensures start { result ≡ start_of (code_of_view self.now) component }
+        ensures cost { steps.new ≤ steps.old + 2 }
+    {
+        self.parts.starts.field(component, steps) as usize
+    }
+
+    /// The component that position `p` is in, by halving.
+    #[tactic(auto, using(crate::proofs::Views::halving))]
+    fn component<C: Ledger>(&self, p: usize, steps: &mut Steps<C>) -> usize
+        requires { p < length (code_of_view self.now).a }
+        ensures component { result ≡ component_of (code_of_view self.now) p }
+        ensures within { result < component_count (code_of_view self.now) }
+        ensures cost { steps.new ≤ steps.old + 2 * digits (length (code_of_view self.now).a + 2) }
+    {
+        let mut low = 0;
+        let mut high = self.components();
+        while high - low > 1 {
+            let middle = low + (high - low) / 2;
+            if self.start(middle, steps) <= p {
+                low = middle;
+            } else {
+                high = middle;
+            }
+        }
+        low
+    }
+
+    /// The position after `p`, round its component.
+    fn after<C: Ledger>(&self, p: usize, steps: &mut Steps<C>) -> usize
+        requires { p < length (code_of_view self.now).a }
+        ensures after { result ≡ after (code_of_view self.now) p }
+        ensures within { result < length (code_of_view self.now).a }
+        ensures cost { steps.new ≤ steps.old + 2 * digits (length (code_of_view self.now).a + 2) + 4 }
+    {
+        let component = self.component(p, steps);
+        let end = self.start(component + 1, steps);
+        if p + 1 == end {
+            self.start(component, steps)
+        } else {
+            p + 1
+        }
+    }
+
+    /// The position before `p`, round its component.
+    fn before<C: Ledger>(&self, p: usize, steps: &mut Steps<C>) -> usize
+        requires { p < length (code_of_view self.now).a }
+        ensures before { result ≡ before (code_of_view self.now) p }
+        ensures within { result < length (code_of_view self.now).a }
+        ensures cost { steps.new ≤ steps.old + 2 * digits (length (code_of_view self.now).a + 2) + 4 }
+    {
+        let component = self.component(p, steps);
+        let start = self.start(component, steps);
+        if p == start {
+            self.start(component + 1, steps) - 1
+        } else {
+            p - 1
+        }
+    }
+
+    /// The other position of the edge of position `p`, which is of this kind.
+    fn mate_of_kind<C: Ledger>(&self, kind: bool, p: usize, steps: &mut Steps<C>) -> usize
+        requires within { p < length (code_of_view self.now).a }
+        requires kind { is_tree (code_of_view self.now) p ≡ kind }
+        ensures mate { result ≡ mate (code_of_view self.now) p }
+        ensures within { result < length (code_of_view self.now).a }
+        ensures cost { steps.new ≤ steps.old + 7 * digits (length (code_of_view self.now).a + 2) + 60 }
+    {
+        let place = self.place_of(kind, p, steps);
+        let mate = self.parens(kind).mate(place, steps);
+        match self.position(kind, mate, steps) {
+            Some(position) => position,
+            None => unreachable!(),
+        }
+    }
+
+    /// The mate of a position of this kind, and any other position as it is.
+    fn over<C: Ledger>(&self, kind: bool, p: usize, steps: &mut Steps<C>) -> usize
+        requires { p < length (code_of_view self.now).a }
+        ensures over { result ≡ over (code_of_view self.now) kind p }
+        ensures within { result < length (code_of_view self.now).a }
+        ensures cost { steps.new ≤ steps.old + 7 * digits (length (code_of_view self.now).a + 2) + 61 }
+    {
+        if self.is_tree(p, steps) == kind {
+            self.mate_of_kind(kind, p, steps)
+        } else {
+            p
+        }
+    }
+
+    /// The next position of the orbit of `p` by steps of one kind.
+    fn step<C: Ledger>(&self, kind: bool, p: usize, steps: &mut Steps<C>) -> usize
+        requires { p < length (code_of_view self.now).a }
+        ensures step { result ≡ step (code_of_view self.now) kind p }
+        ensures within { result < length (code_of_view self.now).a }
+        ensures cost { steps.new ≤ steps.old + 10 * digits (length (code_of_view self.now).a + 2) + 70 }
+    {
+        let over = self.over(kind, p, steps);
+        self.after(over, steps)
+    }
+
+    /// The position from which a step of one kind goes to `p`.
+    fn step_back<C: Ledger>(&self, kind: bool, p: usize, steps: &mut Steps<C>) -> usize
+        requires { p < length (code_of_view self.now).a }
+        ensures back { result ≡ step_back (code_of_view self.now) kind p }
+        ensures within { result < length (code_of_view self.now).a }
+        ensures undone { step (code_of_view self.now) kind result ≡ p }
+        ensures cost { steps.new ≤ steps.old + 10 * digits (length (code_of_view self.now).a + 2) + 70 }
+    {
+        let before = self.before(p, steps);
+        self.over(kind, before, steps)
+    }
+
+    /// How many positions there are: two for each edge. No word is read.
+    #[inline]
+    pub fn len(&self) -> usize
+        ensures len { result ≡ length (code_of_view self.now).a }
+        ensures few { result ≤ 2147483647 }
+        ensures sound { IsTrue (is_sound (code_of_view self.now)) }
+    {
+        self.parts.a.bits().len()
+    }
+
+    /// The other position of the edge at position `p`.
+    pub fn mate<C: Ledger>(&self, p: usize, steps: &mut Steps<C>) -> usize
+        requires { p < length (code_of_view self.now).a }
+        ensures mate { result ≡ mate (code_of_view self.now) p }
+        ensures within { result < length (code_of_view self.now).a }
+        ensures cost { steps.new ≤ steps.old + 8 * digits (length (code_of_view self.now).a + 2) + 64 }
+    {
+        let kind = self.is_tree(p, steps);
+        self.mate_of_kind(kind, p, steps)
+    }
+
+    /// The next position round the node that position `p` leaves: the one after its mate, where its edge is one of the
+    /// trees, and else the one after it.
+    pub fn turn<C: Ledger>(&self, p: usize, steps: &mut Steps<C>) -> usize
+        requires { p < length (code_of_view self.now).a }
+        ensures turn { result ≡ turn (code_of_view self.now) p }
+        ensures within { result < length (code_of_view self.now).a }
+        ensures cost { steps.new ≤ steps.old + 10 * digits (length (code_of_view self.now).a + 2) + 70 }
+    {
+        self.step(true, p, steps)
+    }
+
+    /// The next position of the ring of position `p`: the one after its mate, where its edge is none of the trees, and
+    /// else the one after it.
+    pub fn next<C: Ledger>(&self, p: usize, steps: &mut Steps<C>) -> usize
+        requires { p < length (code_of_view self.now).a }
+        ensures next { result ≡ next (code_of_view self.now) p }
+        ensures within { result < length (code_of_view self.now).a }
+        ensures cost { steps.new ≤ steps.old + 10 * digits (length (code_of_view self.now).a + 2) + 70 }
+    {
+        self.step(false, p, steps)
+    }
+
+    /// The position from which `turn` goes to `p`.
+    pub fn turn_back<C: Ledger>(&self, p: usize, steps: &mut Steps<C>) -> usize
+        requires { p < length (code_of_view self.now).a }
+        ensures turn_back { result ≡ turn_back (code_of_view self.now) p }
+        ensures within { result < length (code_of_view self.now).a }
+        ensures undone { turn (code_of_view self.now) result ≡ p }
+        ensures cost { steps.new ≤ steps.old + 10 * digits (length (code_of_view self.now).a + 2) + 70 }
+    {
+        self.step_back(true, p, steps)
+    }
+
+    /// The position from which `next` goes to `p`.
+    pub fn next_back<C: Ledger>(&self, p: usize, steps: &mut Steps<C>) -> usize
+        requires { p < length (code_of_view self.now).a }
+        ensures next_back { result ≡ next_back (code_of_view self.now) p }
+        ensures within { result < length (code_of_view self.now).a }
+        ensures undone { next (code_of_view self.now) result ≡ p }
+        ensures cost { steps.new ≤ steps.old + 10 * digits (length (code_of_view self.now).a + 2) + 70 }
+    {
+        self.step_back(false, p, steps)
+    }
+
+    /// Whether position `p` is the first of its edge.
+    pub fn is_first<C: Ledger>(&self, p: usize, steps: &mut Steps<C>) -> bool
+        requires { p < length (code_of_view self.now).a }
+        ensures first { result ≡ is_first (code_of_view self.now) p }
+        ensures cost { steps.new ≤ steps.old + 11 }
+    {
+        let kind = self.is_tree(p, steps);
+        let place = self.place_of(kind, p, steps);
+        self.parens(kind).is_open(place, steps)
+    }
+
+    /// The number of the component that position `p` is in.
+    pub fn component_of<C: Ledger>(&self, p: usize, steps: &mut Steps<C>) -> u32
+        requires { p < length (code_of_view self.now).a }
+        ensures component { result ≡ component_of (code_of_view self.now) p }
+        ensures within { result < component_count (code_of_view self.now) }
+        ensures cost { steps.new ≤ steps.old + 2 * digits (length (code_of_view self.now).a + 2) + 2 }
+    {
+        self.component(p, steps) as u32
+    }
+
+    /// The number, among the pairs of one kind, of the innermost pair round the gap before position `p`.
+    fn pair_round<C: Ledger>(&self, kind: bool, p: usize, steps: &mut Steps<C>) -> Option<usize>
+        requires { p < length (code_of_view self.now).a }
+        ensures pair { result ≡ pair_round (code_of_view self.now) kind p }
+        ensures cost { steps.new ≤ steps.old + 4 * digits (length (code_of_view self.now).a + 2) + 58 }
+    {
+        let place = self.place(kind, p, steps);
+        let parens = self.parens(kind);
+        match parens.enclose(place, steps) {
+            Some(opening) => Some(parens.opens_before(opening, steps)),
+            None => None,
+        }
+    }
+
+    /// The number of the node that position `p` leaves: that of its component's root, or the number of components and
+    /// then the number of the edge of the tree that first reaches it.
+    pub fn node_of<C: Ledger>(&self, p: usize, steps: &mut Steps<C>) -> u32
+        requires { p < length (code_of_view self.now).a }
+        ensures node { result ≡ node_of (code_of_view self.now) p }
+        ensures within { result < node_count (code_of_view self.now) }
+        ensures cost { steps.new ≤ steps.old + 6 * digits (length (code_of_view self.now).a + 2) + 64 }
+    {
+        match self.pair_round(true, p, steps) {
+            Some(pair) => (self.components() + pair) as u32,
+            None => self.component_of(p, steps),
+        }
+    }
+
+    /// The ring of position `p`: its component's outer ring, or the shell of an edge that is none of the trees.
+    pub fn ring_of<C: Ledger>(&self, p: usize, steps: &mut Steps<C>) -> RingNumber
+        requires { p < length (code_of_view self.now).a }
+        ensures ring { result ≡ ring_of (code_of_view self.now) p }
+        ensures cost { steps.new ≤ steps.old + 6 * digits (length (code_of_view self.now).a + 2) + 64 }
+    {
+        match self.pair_round(false, p, steps) {
+            Some(pair) => RingNumber::Shell(pair as u32),
+            None => RingNumber::Outer(self.component_of(p, steps)),
+        }
+    }
+
+    /// The place that opens the pair of place `place` of one kind.
+    fn opening<C: Ledger>(&self, kind: bool, place: usize, steps: &mut Steps<C>) -> usize
+        requires { place < length (parens (code_of_view self.now) kind) }
+        ensures opening { result ≡ (if is_open (parens (code_of_view self.now) kind) place then place else mate_of (parens (code_of_view self.now) kind) place) }
+        ensures within { result < length (parens (code_of_view self.now) kind) }
+        ensures cost { steps.new ≤ steps.old + 4 * digits (length (code_of_view self.now).a + 2) + 42 }
+    {
+        let parens = self.parens(kind);
+        if parens.is_open(place, steps) {
+            place
+        } else {
+            parens.mate(place, steps)
+        }
+    }
+
+    /// The number of the edge at position `p`: the edges of the trees come first, and those of one kind in the order
+    /// of their first positions.
+    pub fn edge_of<C: Ledger>(&self, p: usize, steps: &mut Steps<C>) -> u32
+        requires { p < length (code_of_view self.now).a }
+        ensures edge { result ≡ edge_of (code_of_view self.now) p }
+        ensures within { result < edge_count (code_of_view self.now) }
+        ensures cost { steps.new ≤ steps.old + 4 * digits (length (code_of_view self.now).a + 2) + 61 }
+    {
+        let kind = self.is_tree(p, steps);
+        let place = self.place_of(kind, p, steps);
+        let opening = self.opening(kind, place, steps);
+        let pair = self.parens(kind).opens_before(opening, steps);
+        if kind {
+            pair as u32
+        } else {
+            (self.tree_edges() + pair) as u32
+        }
+    }
+
+    /// The first position of an edge, or None where no edge has the number.
+    pub fn first_of_edge<C: Ledger>(&self, edge: u32, steps: &mut Steps<C>) -> Option<usize>
+        ensures position { result ≡ first_of_edge (code_of_view self.now) edge }
+        ensures none { IsNone result ↔ (edge_count (code_of_view self.now) ≤ edge) }
+        ensures cost { steps.new ≤ steps.old + 6 * digits (length (code_of_view self.now).a + 2) + 24 }
+    {
+        let edge = edge as usize;
+        let tree_edges = self.tree_edges();
+        if edge < tree_edges {
+            self.opening_position(true, edge, steps)
+        } else {
+            self.opening_position(false, edge - tree_edges, steps)
+        }
+    }
+
+    /// The first position that leaves a node, or None where no node has the number.
+    pub fn first_of_node<C: Ledger>(&self, node: u32, steps: &mut Steps<C>) -> Option<usize>
+        ensures position { result ≡ first_of_node (code_of_view self.now) node }
+        ensures none { IsNone result ↔ (node_count (code_of_view self.now) ≤ node) }
+        ensures cost { steps.new ≤ steps.old + 6 * digits (length (code_of_view self.now).a + 2) + 24 }
+    {
+        let node = node as usize;
+        let components = self.components();
+        if node < components {
+            Some(self.start(node, steps))
+        } else {
+            self.reached_from(true, node - components, steps)
+        }
+    }
+
+    /// The first position of a shell, or None where no shell has the number.
+    pub fn first_of_shell<C: Ledger>(&self, shell: u32, steps: &mut Steps<C>) -> Option<usize>
+        ensures position { result ≡ first_of_shell (code_of_view self.now) shell }
+        ensures none { IsNone result ↔ (shell_count (code_of_view self.now) ≤ shell) }
+        ensures cost { steps.new ≤ steps.old + 6 * digits (length (code_of_view self.now).a + 2) + 24 }
+    {
+        self.reached_from(false, shell as usize, steps)
+    }
+
+    /// The first position of a component, or None where no component has the number.
+    pub fn start_of<C: Ledger>(&self, component: u32, steps: &mut Steps<C>) -> Option<usize>
+        ensures start { IfSome result (λ p. p ≡ start_of (code_of_view self.now) component) }
+        ensures none { IsNone result ↔ (component_count (code_of_view self.now) ≤ component) }
+        ensures cost { steps.new ≤ steps.old + 6 * digits (length (code_of_view self.now).a + 2) + 24 }
+    {
+        let component = component as usize;
+        if component < self.components() {
+            Some(self.start(component, steps))
+        } else {
+            None
+        }
+    }
+}
