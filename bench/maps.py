@@ -35,6 +35,11 @@ def ring(first, count, face):
         yield e, e, after, after, -before, face, 0
 
 
+def closed_edge(e, inside, outside):
+    """An edge from its node back to it, with a face inside and a face outside; edge and node have one number."""
+    return e, e, e, e, -e, inside, outside
+
+
 def rings(folder, count, length):
     """So many rings of so many edges side by side."""
     edges = (e for i in range(count) for e in ring(1 + i * length, length, i + 1))

@@ -51,11 +51,11 @@ round_found m p (x ∷ xs) d e = elim (cases_Bool (p x)) [
   | inr h ↦ let more = rw h at e in rw h (round_found m p xs d more)
 ]
 
-none_left : (p : ℤ → Bool) (ds : List ℤ) → ((d : ℤ) → has_edge ds d ≡ true → p d ≡ false) → filter p ds ≡ []
+pub none_left : (p : ℤ → Bool) (ds : List ℤ) → ((d : ℤ) → has_edge ds d ≡ true → p d ≡ false) → filter p ds ≡ []
 none_left p [] none = refl
 none_left p (x ∷ xs) none = rw (none x (or_left _ _ (same_self x))) (none_left p xs (λ d there. none d (or_right _ _ there)))
 
-rises : (t : RotationRows) → IsRotation t → is_rising_edges (signed_edges (map_of_rotation t)) ≡ true
+pub rises : (t : RotationRows) → IsRotation t → is_rising_edges (signed_edges (map_of_rotation t)) ≡ true
 rises t rotation = signed_edges_rise (map_of_rotation t) (rising_strictly (map (λ e. e.id) t.edges) rotation.edges) (rising-all (nat_lt 0) (map (λ e. e.id) t.edges) ∙ all_ids t.edges ∙ rotation.ids)
   where
     all_ids : (edges : List EdgeRow) → list_all (nat_lt 0) (map (λ e. e.id) edges) ≡ list_all (λ e. nat_lt 0 e.id) edges
@@ -63,7 +63,7 @@ rises t rotation = signed_edges_rise (map_of_rotation t) (rising_strictly (map (
     all_ids (e ∷ edges) = ap (λ b. nat_lt 0 e.id && b) (all_ids edges)
 
 -- the first dart of a node is the smallest signed edge that leaves it
-smallest_is : (t : RotationRows) (node dart : ℕ) → IsFirstDart t (2 * length t.edges) node dart → IsSmallest (λ d. origin (map_of_rotation t) d == node) (signed_edges (map_of_rotation t)) (signed_edge t.edges dart)
+pub smallest_is : (t : RotationRows) (node dart : ℕ) → IsFirstDart t (2 * length t.edges) node dart → IsSmallest (λ d. origin (map_of_rotation t) d == node) (signed_edges (map_of_rotation t)) (signed_edge t.edges dart)
 unfolding rows_alone
 smallest_is t node dart first =
     record {

@@ -1,6 +1,6 @@
 -- What is found by an id.
-use Rattle.std.proofs.Common.{◌≡◌, ℕ, ◌*◌, ◌<◌, ◌≤◌, ℤ, true, false, List, [], map, length, get_or, refl, sym, ap, ◌∙◌, subst, arith, Option, Some, None}
-use Rattle.std.specs.Prelude.{IfSome, unwrap_or}
+use Rattle.std.proofs.Common.{◌≡◌, ℕ, zero, suc, ◌∷◌, ◌*◌, ◌<◌, ◌≤◌, ℤ, true, false, List, [], map, length, get_or, refl, sym, ap, ◌∙◌, subst, arith, Option, Some, None}
+use Rattle.std.specs.Prelude.{IfSome, slice_get, unwrap_or}
 use Rattle.std.specs.BTreeMap.{BTreeMap, get}
 use Rattle.std.specs.Ordering.{nat_cmp}
 use Rattle.std.proofs.lemmas.List.{get_or_default, length-map}
@@ -8,13 +8,14 @@ use Rattle.std.proofs.lemmas.Option.{slice_get-map, slice_get_within}
 use Rattle.topo_base.specs.SignedEdge.{edge_of}
 use Rattle.plane_model.specs.declared.rows.NodeRow.{NodeRow}
 use Rattle.plane_model.specs.Rows.{Rows}
+use Rattle.plane_model.specs.Lists.{containing}
 use Rattle.plane_model.specs.Answers.{has_node, has_signed_edge}
 use Rattle.rotation_check.specs.Darts.{RotationRows, IsDartOf, map_of_rotation, node_id}
 use Rattle.rotation_check.specs.Index.{IsIndex}
 use Rattle.rotation_check.proofs.Indexes.{index_some}
 use Rattle.rotation_check.proofs.Numbering.{dart_has}
 use Rattle.rotation_check.proofs.RowLemmas.{node_at-has, edge_at-has}
-use Rattle.topo_cli.specs.ExplicitFirsts.{IsFirst, IsFirstOf, AreFirsts}
+use Rattle.topo_cli.specs.ExplicitFirsts.{IsContaining, IsFirst, IsFirstOf, AreFirsts}
 
 rows_alone : RotationRows → Rows
 rows_alone t = record { nodes = t.nodes; edges = t.edges; faces = []; regions = []; members = [] }
@@ -63,4 +64,24 @@ first_found t rows firsts n row x index are found read =
     record {
       there = node_at-has (rows_alone t) n ∙ index_some (map (λ n. n.id) t.nodes) rows n row index found;
       is = subst (λ z. IsFirst t (2 * length t.edges) z x) own (first_read t (2 * length t.edges) row firsts x (node_row t rows n row index found) are read);
+    }
+
+map_at : (f : NodeRow → Option ℕ) (g : ℕ → Option ℕ) (nodes : List NodeRow) (row n : ℕ) → ((x : NodeRow) → f x ≡ g x.id) → slice_get (map (λ n. n.id) nodes) row ≡ Some n → get_or (map f nodes) row None ≡ g n
+map_at f g [] row n same h = cc
+map_at f g (x ∷ nodes) zero n same h = let is : x.id ≡ n = cc in same x ∙ ap g is
+map_at f g (x ∷ nodes) (suc row) n same h = map_at f g nodes row n same h
+
+-- the face that contains a node that has a row
+pub face_found : (t : RotationRows) (rows : BTreeMap ℕ ℕ) (faces : List (Option ℕ)) (n row : ℕ) (x : Option ℕ) → IsIndex (map (λ n. n.id) t.nodes) rows → faces ≡ map (λ n. containing (map_of_rotation t) n.id) t.nodes
+    → Some row ≡ get nat_cmp rows n → x ≡ get_or faces row x → IsContaining t n x
+unfolding rows_alone
+face_found t rows faces n row x index are found read =
+    let l = length-map t.nodes (λ (n : NodeRow). containing (map_of_rotation t) n.id) in
+    let size = ap length are ∙ l in
+    let within = node_row t rows n row index found in
+    let own : get_or faces row None ≡ containing (map_of_rotation t) n =
+    ap (λ fs. get_or fs row None) are ∙ map_at (λ n. containing (map_of_rotation t) n.id) (containing (map_of_rotation t)) t.nodes row n (λ y. refl) (index.there n row (sym found)) in
+    record {
+      there = node_at-has (rows_alone t) n ∙ index_some (map (λ n. n.id) t.nodes) rows n row index found;
+      is = sym (same_first faces row x (omega arith) read) ∙ own;
     }

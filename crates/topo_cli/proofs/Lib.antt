@@ -1,5 +1,4 @@
 pub mod Loads
-pub mod Faceless
 pub mod Front
 pub mod LineLemmas
 pub mod Written
@@ -11,3 +10,7 @@ pub mod ExplicitWalking
 pub mod ExplicitLeast
 pub mod ExplicitLookups
 pub mod ExplicitItems
+pub mod Containers
+pub mod MapOfTables
+pub mod Checks
+pub mod Served

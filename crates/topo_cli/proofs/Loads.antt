@@ -12,11 +12,10 @@ use Rattle.topo_cli.specs.Tables.{◌>>=◌, Ending, table, read_by, read_or_mis
 use Rattle.topo_cli.specs.Words.{node_table, edge_table, face_table}
 use Rattle.plane_model.specs.Rows.{Rows}
 use Rattle.plane_model.specs.InRange.{is_in_range}
-use Rattle.plane_model.specs.Rotation.{is_rotation_system}
-use Rattle.plane_model.specs.Faults.{rotation_fault}
-use Rattle.plane_model.proofs.AllFaults.{None_from}
-use Rattle.plane_model.proofs.RotationFaults.{none-rotation_fault}
-use Rattle.rotation_check.specs.Darts.{RotationRows}
+use Rattle.plane_model.specs.PlaneMap.{map_of}
+use Rattle.plane_model.specs.Consistent.{is_consistent}
+use Rattle.plane_model.specs.Faults.{first_fault}
+use Rattle.plane_model.proofs.AllFaults.{None_from, none-first_fault}
 use Rattle.rotation_check.specs.Checked.{Names}
 use Rattle.rotation_check.specs.declared.checks.CheckFault.{CheckFault}
 use Rattle.rotation_check.specs.declared.checks.CheckFault.TheVariants as check
@@ -119,21 +118,20 @@ ends_at_faces None dir nodes edges e n k is = tt
 ends_at_faces (Some files) dir nodes edges e n k is = rw (n, k) (ended e (table face_rows files (face_table dir)) _ is)
 
 -- tables that were loaded and checked are served
-pub serves : (files : Option Files) (dir : List ℕ) (t : Rows) (rotation : RotationRows)
-    → IfSome files (λ f. loaded f dir ≡ Ok t) → IsTrue (is_in_range t) → IsTrue (is_rotation_system t) → rotation.nodes ≡ t.nodes → rotation.edges ≡ t.edges
-    → IfSome files (λ f. Serves rotation (served f dir))
+pub serves : (files : Option Files) (dir : List ℕ) (t m : Rows)
+    → IfSome files (λ f. loaded f dir ≡ Ok t) → IsTrue (is_in_range t) → IsTrue (is_consistent t) → map_of m ≡ map_of t → IfSome files (λ f. Serves m (served f dir))
 unfolding checked
-serves None dir t rotation l r system n e = tt
-serves (Some files) dir t rotation l r system n e =
-    let fine : rotation_fault t ≡ None = None_from _ _ (none-rotation_fault t r) system in
-    rw (l, fine) (record { system = system; nodes = n; edges = e })
+serves None dir t m l r consistent is = tt
+serves (Some files) dir t m l r consistent is =
+    let fine : first_fault t ≡ None = None_from _ _ (none-first_fault t r) consistent in
+    rw (l, fine) (record { consistent = consistent; is = is })
 
 pub ends_at_load : (files : Option Files) (dir : List ℕ) (e : LoadFault) → Ends files (λ f. loaded f dir) e → Ends files (λ f. served f dir) e
 ends_at_load None dir e is = tt
 ends_at_load (Some files) dir e is = ended e (loaded files dir) checked is
 
 pub ends_at_check : (files : Option Files) (dir : List ℕ) (t : Rows) (why : CheckFault) (e : LoadFault)
-    → IfSome files (λ f. loaded f dir ≡ Ok t) → Names why (rotation_fault t) → IsSameCheck why e → Ends files (λ f. served f dir) e
+    → IfSome files (λ f. loaded f dir ≡ Ok t) → Names why (first_fault t) → IsSameCheck why e → Ends files (λ f. served f dir) e
 unfolding checked
 ends_at_check None dir t why e l is same = tt
 ends_at_check (Some files) dir t (check.Refused r) e l is same = rw (same, l, is) refl

@@ -5,15 +5,13 @@ use Rattle.std.specs.Io.KnownBytes.{Appends}
 use Rattle.ports.specs.Outside.{IsReadToEnd, Rose}
 use Rattle.plane_model.specs.Rows.{Rows}
 use Rattle.plane_model.specs.PlaneMap.{map_of}
-use Rattle.plane_model.specs.Rotation.{is_rotation_system}
-use Rattle.rotation_check.specs.Darts.{RotationRows, map_of_rotation}
+use Rattle.plane_model.specs.Consistent.{is_consistent}
 use Rattle.topo_cli.specs.Limits.{most_bytes}
 use Rattle.topo_cli.specs.Words.{folder}
 use Rattle.topo_cli.specs.Tables.{Ending, served}
 use Rattle.topo_cli.specs.Answering.{answers_so_far}
 use Rattle.topo_cli.specs.Loading.{IsMapOf, Serves}
 use Rattle.topo_cli.specs.Outcome.{Call, OnTables, IsServedAnd, IsDone, IsWriteFault, IsMemory, Wrote, WrotePart, WrotePartOf, answers_if_served}
-use Rattle.topo_cli.proofs.Faceless.{same_answers}
 
 -- what holds of each value holds where there is one
 pub if_some : {X : Type 0} (o : Option X) (P : X → Type 0) → ((x : X) → P x) → IfSome o P
@@ -35,47 +33,44 @@ wrote_nothing a b e = let P : Option (List ℕ) → Type 0 = λ o. Appends a o [
     same None = tt
     same (Some xs) = sym (append-nil xs)
 
--- the answers of the rotation are those of the tables
-answers_of : (rotation : RotationRows) (t : Rows) (script : List ℕ) → IsMapOf rotation t → answers_so_far (map_of_rotation rotation) script ≡ answers_so_far (map_of t) script
-answers_of rotation t script is =
-    ap (λ nodes. answers_so_far (map_of_rotation (record { nodes = nodes; edges = rotation.edges })) script) is.nodes
-    ∙ ap (λ edges. answers_so_far (map_of_rotation (record { nodes = t.nodes; edges = edges })) script) is.edges
-    ∙ same_answers t script
+-- the answers of the map are those of the tables
+answers_of : (m : Rows) (t : Rows) (script : List ℕ) → IsMapOf m t → answers_so_far (map_of m) script ≡ answers_so_far (map_of t) script
+answers_of m t script is = let same : map_of m ≡ map_of t = is.is in ap (λ n. answers_so_far n script) same
 
--- what holds of the answers of the rotation holds of those of the tables
-on_served : (rotation : RotationRows) (text : List ℕ) (P : List ℕ → Type 0) (read : Result Rows Ending)
-    → Serves rotation read → P (answers_so_far (map_of_rotation rotation) text) → IsServedAnd (λ t. P (answers_so_far (map_of t) text)) read
-on_served rotation text P (Ok t) is h = subst P (answers_of rotation t text is) h
-on_served rotation text P (Err e) is h = absurd is
+-- what holds of the answers of the map holds of those of the tables
+on_served : (m : Rows) (text : List ℕ) (P : List ℕ → Type 0) (read : Result Rows Ending)
+    → Serves m read → P (answers_so_far (map_of m) text) → IsServedAnd (λ t. P (answers_so_far (map_of t) text)) read
+on_served m text P (Ok t) is h = subst P (answers_of m t text is) h
+on_served m text P (Err e) is h = absurd is
 
-is_system : (rotation : RotationRows) (read : Result Rows Ending) → Serves rotation read → IsServedAnd (λ t. IsTrue (is_rotation_system t)) read
-is_system rotation (Ok t) is = is.system
-is_system rotation (Err e) is = absurd is
+is_fine : (m : Rows) (read : Result Rows Ending) → Serves m read → IsServedAnd (λ t. IsTrue (is_consistent t)) read
+is_fine m (Ok t) is = is.consistent
+is_fine m (Err e) is = absurd is
 
-is_served : (rotation : RotationRows) (read : Result Rows Ending) → Serves rotation read → IsServedAnd (λ t. ⊤) read
-is_served rotation (Ok t) is = tt
-is_served rotation (Err e) is = absurd is
+is_served : (m : Rows) (read : Result Rows Ending) → Serves m read → IsServedAnd (λ t. ⊤) read
+is_served m (Ok t) is = tt
+is_served m (Err e) is = absurd is
 
 -- a fact of what was read of a script, where that is told
 told : (before : Option (List ℕ)) (text : List ℕ) (P : List ℕ → Type 0) → IfSome before (λ left. text ≡ left) → P text → IfSome before P
 told None text P all h = tt
 told (Some left) text P all h = subst P all h
 
-pub done : (c : Call) (dir : List ℕ) (rotation : RotationRows) (text : List ℕ) → folder c.words ≡ Some dir → IfSome c.files (λ files. Serves rotation (served files dir))
+pub done : (c : Call) (dir : List ℕ) (m : Rows) (text : List ℕ) → folder c.words ≡ Some dir → IfSome c.files (λ files. Serves m (served files dir))
     → IfSome c.script_before (λ left. text ≡ left) → IsReadToEnd c.script_before c.script_after → length text ≤ most_bytes
-    → Appends c.out_before c.out_after (answers_so_far (map_of_rotation rotation) text) → IsDone c
-done c dir rotation text form serves all end short wrote =
+    → Appends c.out_before c.out_after (answers_so_far (map_of m) text) → IsDone c
+done c dir m text form serves all end short wrote =
     record {
       form = rw form refl;
-      system = on_tables c dir (IsServedAnd (λ t. IsTrue (is_rotation_system t))) form (if_weaker c.files _ _ (λ files. is_system rotation (served files dir)) serves);
+      consistent = on_tables c dir (IsServedAnd (λ t. IsTrue (is_consistent t))) form (if_weaker c.files _ _ (λ files. is_fine m (served files dir)) serves);
       answered = on_tables c dir (IsServedAnd (λ t. IfSome c.script_before (λ script. Wrote c (answers_so_far (map_of t) script)))) form
           (if_weaker c.files _ _ (λ files is. answered (served files dir) is) serves);
       read = end;
       short = told c.script_before text (λ script. length script ≤ most_bytes) all short;
     }
   where
-    answered : (read : Result Rows Ending) → Serves rotation read → IsServedAnd (λ t. IfSome c.script_before (λ script. Wrote c (answers_so_far (map_of t) script))) read
-    answered (Ok t) is = told c.script_before text (λ script. Wrote c (answers_so_far (map_of t) script)) all (subst (Wrote c) (answers_of rotation t text is) wrote)
+    answered : (read : Result Rows Ending) → Serves m read → IsServedAnd (λ t. IfSome c.script_before (λ script. Wrote c (answers_so_far (map_of t) script))) read
+    answered (Ok t) is = told c.script_before text (λ script. Wrote c (answers_so_far (map_of t) script)) all (subst (Wrote c) (answers_of m t text is) wrote)
     answered (Err e) is = absurd is
 
 -- memory ran out before anything was written
@@ -89,28 +84,28 @@ memory_early c dir form e =
     }
 
 -- memory ran out while the script was answered
-pub memory_later : (c : Call) (dir : List ℕ) (rotation : RotationRows) (text : List ℕ) → folder c.words ≡ Some dir → IfSome c.files (λ files. Serves rotation (served files dir))
-    → IfSome c.script_before (λ left. text ≡ left) → WrotePart c (answers_so_far (map_of_rotation rotation) text) → IsMemory c
-memory_later c dir rotation text form serves all part =
+pub memory_later : (c : Call) (dir : List ℕ) (m : Rows) (text : List ℕ) → folder c.words ≡ Some dir → IfSome c.files (λ files. Serves m (served files dir))
+    → IfSome c.script_before (λ left. text ≡ left) → WrotePart c (answers_so_far (map_of m) text) → IsMemory c
+memory_later c dir m text form serves all part =
     let P : Result Rows Ending → Type 0 = λ read. IfSome c.script_before (λ script. WrotePart c (answers_if_served read script)) in
     record { form = rw form refl; wrote = on_tables c dir P form (if_weaker c.files _ (λ files. P (served files dir)) (λ files is. answered (served files dir) is) serves) }
   where
-    answered : (read : Result Rows Ending) → Serves rotation read → IfSome c.script_before (λ script. WrotePart c (answers_if_served read script))
-    answered (Ok t) is = told c.script_before text (λ script. WrotePart c (answers_so_far (map_of t) script)) all (subst (WrotePart c) (answers_of rotation t text is) part)
+    answered : (read : Result Rows Ending) → Serves m read → IfSome c.script_before (λ script. WrotePart c (answers_if_served read script))
+    answered (Ok t) is = told c.script_before text (λ script. WrotePart c (answers_so_far (map_of t) script)) all (subst (WrotePart c) (answers_of m t text is) part)
     answered (Err e) is = absurd is
 
 -- a write of the answers failed
-pub write_fault : (c : Call) (dir : List ℕ) (rotation : RotationRows) (text : List ℕ) → folder c.words ≡ Some dir → IfSome c.files (λ files. Serves rotation (served files dir))
-    → IfSome c.script_before (λ left. text ≡ left) → length text ≤ most_bytes → WrotePart c (answers_so_far (map_of_rotation rotation) text)
+pub write_fault : (c : Call) (dir : List ℕ) (m : Rows) (text : List ℕ) → folder c.words ≡ Some dir → IfSome c.files (λ files. Serves m (served files dir))
+    → IfSome c.script_before (λ left. text ≡ left) → length text ≤ most_bytes → WrotePart c (answers_so_far (map_of m) text)
     → Rose c.out_faults_before c.out_faults_after → IsWriteFault c
-write_fault c dir rotation text form serves all short part rose =
+write_fault c dir m text form serves all short part rose =
     record {
       cause = rose;
       usage = λ none. (let differ : ◌≡◌ {A = Option (List ℕ)} None (Some dir) = sym none ∙ form in cc);
       wrote = on_tables c dir (WrotePartOf c) form (if_weaker c.files _ (λ files. WrotePartOf c (served files dir)) (λ files is. answered (served files dir) is) serves);
     }
   where
-    answered : (read : Result Rows Ending) → Serves rotation read → WrotePartOf c read
+    answered : (read : Result Rows Ending) → Serves m read → WrotePartOf c read
     answered (Ok t) is =
-        told c.script_before text (λ script. WrotePart c (answers_so_far (map_of t) script) × (length script ≤ most_bytes)) all (subst (WrotePart c) (answers_of rotation t text is) part, short)
+        told c.script_before text (λ script. WrotePart c (answers_so_far (map_of t) script) × (length script ≤ most_bytes)) all (subst (WrotePart c) (answers_of m t text is) part, short)
     answered (Err e) is = absurd is

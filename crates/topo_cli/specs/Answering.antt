@@ -11,6 +11,8 @@ is_answered (Query.Ring d) = true
 is_answered (Query.Next d) = true
 is_answered (Query.Ends d) = true
 is_answered (Query.Sides d) = true
+is_answered (Query.Contains n) = true
+is_answered Query.Counts = true
 is_answered q = false
 
 -- a line of another form is bad

@@ -4,6 +4,8 @@ use Rattle.std.specs.BTreeMap.{BTreeMap}
 use Rattle.topo_base.specs.SignedEdge.{comes_before}
 use Rattle.plane_model.specs.declared.rows.EdgeRow.{EdgeRow}
 use Rattle.plane_model.specs.PlaneMap.{origin}
+use Rattle.plane_model.specs.Component.{components}
+use Rattle.plane_model.specs.Lists.{containing as container}
 use Rattle.plane_model.specs.Answers.{has_node}
 use Rattle.rotation_check.specs.Darts.{RotationRows, IsRotation, map_of_rotation, node_id, signed_edge}
 use Rattle.rotation_check.specs.Index.{IsIndex}
@@ -38,10 +40,17 @@ pub record IsFirstOf (t : RotationRows) (node : ℕ) (first : Option ℕ) : Type
   pub there : IsTrue (has_node (map_of_rotation t) node)
   pub is : IsFirst t (2 * length t.edges) node first
 
+-- the face that contains a node of the map
+pub record IsContaining (t : RotationRows) (node : ℕ) (face : Option ℕ) : Type 0 where
+  pub there : IsTrue (has_node (map_of_rotation t) node)
+  pub is : face ≡ container (map_of_rotation t) node
+
 -- the arrays beside a rotation
-pub record IsExplicit (t : RotationRows) (node_ids : List ℕ) (node_rows edge_rows : BTreeMap ℕ ℕ) (firsts : List (Option ℕ)) : Type 0 where
+pub record IsExplicit (t : RotationRows) (node_ids : List ℕ) (node_rows edge_rows : BTreeMap ℕ ℕ) (firsts containing : List (Option ℕ)) (component_count : ℕ) : Type 0 where
   pub rotation : IsRotation t
   pub ids : node_ids ≡ map (λ n. n.id) t.nodes
   pub nodes : IsIndex (map (λ n. n.id) t.nodes) node_rows
   pub edges : IsIndex (map (λ e. e.id) t.edges) edge_rows
   pub smallest : AreFirsts t (2 * length t.edges) firsts
+  pub containers : containing ≡ map (λ n. container (map_of_rotation t) n.id) t.nodes
+  pub as_many : component_count ≡ length (components (map_of_rotation t))

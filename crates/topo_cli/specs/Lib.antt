@@ -9,3 +9,5 @@ pub mod Loading
 pub mod Exit
 pub mod ExplicitWalks
 pub mod ExplicitFirsts
+pub mod Contained
+pub mod Serving

@@ -4,8 +4,8 @@ use Rattle.ports.specs.Outside.{Files, IsNotHeld, Rose}
 use Rattle.topo_cli.specs.Files.{IsLongFile}
 use Rattle.topo_cli.specs.Tables.{Ending, IsNeeded}
 use Rattle.plane_model.specs.Rows.{Rows}
-use Rattle.plane_model.specs.Rotation.{is_rotation_system}
-use Rattle.rotation_check.specs.Darts.{RotationRows}
+use Rattle.plane_model.specs.PlaneMap.{map_of}
+use Rattle.plane_model.specs.Consistent.{is_consistent}
 use Rattle.rotation_check.specs.declared.checks.CheckFault.{CheckFault}
 use Rattle.rotation_check.specs.declared.checks.CheckFault.TheVariants as check
 use Rattle.topo_csv.specs.declared.fault.CsvFault.{CsvFault}
@@ -65,12 +65,11 @@ abbrev pub IsSameCheck : CheckFault → LoadFault → Type 0
 IsSameCheck (check.Refused why) e = e ≡ fault.Refused why
 IsSameCheck check.Memory e = e ≡ fault.Memory
 
--- the tables are a rotation system, and the rotation has their nodes and edges
-pub record IsMapOf (rotation : RotationRows) (t : Rows) : Type 0 where
-  pub system : IsTrue (is_rotation_system t)
-  pub nodes : rotation.nodes ≡ t.nodes
-  pub edges : rotation.edges ≡ t.edges
+-- tables are consistent, and these have their map
+pub record IsMapOf (m t : Rows) : Type 0 where
+  pub consistent : IsTrue (is_consistent t)
+  pub is : map_of m ≡ map_of t
 
-abbrev pub Serves : RotationRows → Result Rows Ending → Type 0
-Serves rotation (Ok t) = IsMapOf rotation t
-Serves rotation (Err e) = ⊥
+abbrev pub Serves : Rows → Result Rows Ending → Type 0
+Serves m (Ok t) = IsMapOf m t
+Serves m (Err e) = ⊥

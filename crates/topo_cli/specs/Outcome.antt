@@ -5,7 +5,7 @@ use Rattle.ports.specs.Outside.{Files, Rose, GainsPart, IsReadToEnd}
 use Rattle.topo_base.specs.declared.refusal.Refusal.{Refusal}
 use Rattle.plane_model.specs.Rows.{Rows}
 use Rattle.plane_model.specs.PlaneMap.{map_of}
-use Rattle.plane_model.specs.Rotation.{is_rotation_system}
+use Rattle.plane_model.specs.Consistent.{is_consistent}
 use Rattle.topo_cli.specs.declared.status.Status.{Status}
 use Rattle.topo_cli.specs.declared.status.Status.TheVariants as status
 use Rattle.topo_cli.specs.Limits.{most_bytes}
@@ -57,10 +57,10 @@ TookTooMuch None after = ⊤
 TookTooMuch (Some before) None = ⊥
 TookTooMuch (Some before) (Some after) = most_bytes + length after < length before
 
--- the tables are a rotation system, the script was read to its end, and its answers were written
+-- the tables are consistent, the script was read to its end, and its answers were written
 pub record IsDone (c : Call) : Type 0 where
   pub form : IsSome (folder c.words)
-  pub system : OnTables c (IsServedAnd (λ t. IsTrue (is_rotation_system t)))
+  pub consistent : OnTables c (IsServedAnd (λ t. IsTrue (is_consistent t)))
   pub answered : OnTables c (IsServedAnd (λ t. IfSome c.script_before (λ script. Wrote c (answers_so_far (map_of t) script))))
   pub read : IsReadToEnd c.script_before c.script_after
   pub short : IfSome c.script_before (λ script. length script ≤ most_bytes)

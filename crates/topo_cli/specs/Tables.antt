@@ -4,7 +4,7 @@ use Rattle.ports.specs.Outside.{Files}
 use Rattle.topo_base.specs.declared.refusal.Refusal.{Refusal}
 use Rattle.plane_model.specs.Rows.{Rows}
 use Rattle.plane_model.specs.Reading.{node_rows, edge_rows, face_rows}
-use Rattle.plane_model.specs.Faults.{rotation_fault}
+use Rattle.plane_model.specs.Faults.{first_fault}
 use Rattle.topo_cli.specs.Limits.{most_bytes}
 use Rattle.topo_cli.specs.Words.{node_table, edge_table, face_table}
 
@@ -40,9 +40,9 @@ abbrev pub unless_fault : Rows → Option Refusal → Result Rows Ending
 unless_fault t None = Ok t
 unless_fault t (Some e) = Err (Refused e)
 
--- tables that are a rotation system, or the first fault
+-- tables that are consistent, or the first fault
 unfoldable pub checked : Rows → Result Rows Ending
-checked t = unless_fault t (rotation_fault t)
+checked t = unless_fault t (first_fault t)
 
 -- the tables of a folder, which are asked for and read in this order
 unfoldable pub loaded : Files → List ℕ → Result Rows Ending
@@ -52,7 +52,7 @@ loaded files dir = do
   faces ← table face_rows files (face_table dir)
   Ok (record { nodes = nodes; edges = edges; faces = faces; regions = []; members = [] })
 
--- the tables, where they are all read and a rotation system
+-- the tables, where they are all read and consistent
 abbrev pub served : Files → List ℕ → Result Rows Ending
 served files dir = loaded files dir >>= checked
 

@@ -4,10 +4,10 @@ ghost use Rattle.std.specs.Prelude.{◌≡◌, ℕ, List, [], ◌<◌, ◌≤◌
 ghost use Rattle.std.specs.Io.KnownBytes.{Appends};
 ghost use Rattle.ports.specs.Outside.{Rose, GainsPart};
 ghost use Rattle.topo_base.specs.Script.{lines};
-ghost use Rattle.rotation_check.specs.Darts.{map_of_rotation};
+ghost use Rattle.plane_model.specs.PlaneMap.{map_of};
 ghost use Rattle.topo_cli.specs.Answering.{answers_so_far};
 
-use crate::explicit::ExplicitMap;
+use crate::explicit::placed::PlacedMap;
 use bit_words::Memory;
 use ports::{Failed, Sink};
 use std::alloc::Global;
@@ -65,12 +65,12 @@ fn put_out_if_full<K: Sink>(out: &mut K, text: &mut Vec<u8>) -> Result<(), Faile
 /// Answers each line of a script, in order.
 pub fn answer_script<K: Sink>(
     alloc: Global,
-    map: &ExplicitMap,
+    map: &PlacedMap,
     script: &[u8],
     out: &mut K,
 ) -> Result<(), AnswerFault>
-    ensures answered { OnOk result (Appends (K.held out.old) (K.held out.new) (answers_so_far (map_of_rotation map.now) script.now)) }
-    ensures part { OnErr result (GainsPart (K.held out.old) (K.held out.new) (answers_so_far (map_of_rotation map.now) script.now)) }
+    ensures answered { OnOk result (Appends (K.held out.old) (K.held out.new) (answers_so_far (map_of map.now) script.now)) }
+    ensures part { OnErr result (GainsPart (K.held out.old) (K.held out.new) (answers_so_far (map_of map.now) script.now)) }
     ensures cause { IsErrOf result AnswerFault.WriteFault → Rose (K.faults out.old) (K.faults out.new) }
     ensures never_falls { K.faults out.old ≤ K.faults out.new }
 {

@@ -1,22 +1,26 @@
 //! Answers from explicit arrays.
 
 pub mod appending;
+pub mod containing;
 pub mod firsts;
+pub mod placed;
 pub mod round;
 
 use crate::explicit::appending::{append_number, append_signed, append_unknown};
+use crate::explicit::containing::{component_faces, node_faces};
 use crate::explicit::firsts::{edge_ids, first_darts};
 use crate::explicit::round::Round;
-use bit_words::Memory;
+use euler_check::Parts;
+use islands::Placement;
 use plane_model::NodeRow;
-use query_text::{Query, head, read_line};
+use query_text::Query;
 use rotation_check::{Rotation, node_ids, reversed, rows_by_id};
 use std::alloc::{AllocError, Global};
 use std::collections::BTreeMap;
 use std::marker::Model;
 use topo_base::{IdNumber, NodeId, Signed};
 
-/// A map whose nodes, edges and rings are answered from the arrays of its rotation. Contracts see the rotation.
+/// A map whose nodes, edges, rings and containing faces are answered from the arrays of its rotation. Contracts see the rotation.
 #[derive(Drop)]
 pub struct ExplicitMap {
     rotation: Rotation,
@@ -28,6 +32,9 @@ pub struct ExplicitMap {
     edge_rows: BTreeMap<IdNumber, u32>,
     /// The smallest of the darts that leave the node of each row.
     firsts: Vec<Option<u32>>,
+    /// The face that contains the node in each row, or the node's component.
+    containing: Vec<Option<IdNumber>>,
+    components: u32,
 }
 
 impl Model for ExplicitMap {
@@ -38,38 +45,41 @@ impl Model for ExplicitMap {
 
     ghost view = { λ m. m.rotation };
 
-    ghost invariant = { λ m. IsExplicit m.rotation m.node_ids.items m.node_rows m.edge_rows m.firsts.items };
+    ghost invariant = { λ m. IsExplicit m.rotation m.node_ids.items m.node_rows m.edge_rows m.firsts.items m.containing.items m.components };
 }
 
 impl ExplicitMap {
-    ghost use Rattle.std.specs.Prelude.{◌≡◌, ◌++◌, ◌*◌, ◌<◌, IfOk, IsFalse, OnOk, length, flat_map, map, MatchOption};
-    ghost use Rattle.topo_base.specs.Script as script;
-    ghost use Rattle.topo_base.specs.SignedEdge.{reverse};
-    ghost use Rattle.plane_model.specs.PlaneMap.{origin, orbit};
-    ghost use Rattle.plane_model.specs.Answers.{after_colon, has_node, has_signed_edge, items};
+    ghost use Rattle.std.specs.Prelude.{◌≡◌, ◌++◌, ◌*◌, ◌<◌, IfOk, IsFalse, OnOk, length, map, MatchOption};
+    ghost use Rattle.plane_model.specs.PlaneMap.{origin, side};
+    ghost use Rattle.plane_model.specs.Component.{components};
+    ghost use Rattle.plane_model.specs.Faces.{outer_rings};
+    ghost use Rattle.plane_model.specs.Answers.{has_node, has_signed_edge};
     ghost use Rattle.rotation_check.specs.Darts.{IsDartOf, map_of_rotation, signed_edge};
+    ghost use Rattle.euler_check.specs.Parts.{AreParts};
+    ghost use Rattle.islands.specs.Darts.{AreDartsOf};
     ghost use Rattle.query_text.specs.Lines.{line_of};
-    ghost use Rattle.topo_cli.specs.Answering.{answer_so_far};
-    ghost use Rattle.topo_cli.specs.ExplicitFirsts.{IsFirstOf};
-    ghost use Rattle.topo_cli.specs.ExplicitWalks.{IsAnswered, after_colon_of, ends_text, line_answer, sides_text, step_of, walk_text};
+    ghost use Rattle.topo_cli.specs.Contained.{HaveOuterRings};
+    ghost use Rattle.topo_cli.specs.ExplicitFirsts.{IsContaining, IsFirstOf};
+    ghost use Rattle.topo_cli.specs.ExplicitWalks.{IsOfRotation, after_colon_of, ends_text, sides_text, step_of, walk_text};
 
-    /// The map of a rotation whose nodes have these rows, in its order.
-    pub fn new(alloc: Global, rotation: Rotation, nodes: &[NodeRow]) -> Result<ExplicitMap, Memory>
-        requires { nodes.now ≡ rotation.nodes }
-        ensures { IfOk result (λ map. map ≡ rotation) }
-    {
-        ExplicitMap::index(alloc, rotation, nodes).map_err(|_| Memory)
-    }
-
-    fn index(
+    /// The map of a rotation whose nodes have these rows, in its order, and whose components are placed so.
+    pub fn new(
         alloc: Global,
         rotation: Rotation,
         nodes: &[NodeRow],
+        parts: &Parts,
+        placement: &Placement,
     ) -> Result<ExplicitMap, AllocError>
-        requires { nodes.now ≡ rotation.nodes }
+        requires nodes { nodes.now ≡ rotation.nodes }
+        requires parts { AreParts rotation parts.now }
+        requires outer { HaveOuterRings (map_of_rotation rotation) }
+        requires starts { AreDartsOf rotation.edges (outer_rings (map_of_rotation rotation)) placement.now.starts }
+        requires faces { placement.now.faces ≡ map (side (map_of_rotation rotation)) (outer_rings (map_of_rotation rotation)) }
         ensures { IfOk result (λ map. map ≡ rotation) }
     {
         let firsts = first_darts(alloc, &rotation)?;
+        let faces = component_faces(alloc, parts, placement)?;
+        let containing = node_faces(alloc, &rotation, nodes, &firsts, parts, &faces)?;
         let node_ids = node_ids(alloc, nodes)?;
         let node_rows = rows_by_id(alloc, &node_ids)?;
         let edge_rows = rows_by_id(alloc, &edge_ids(alloc, &rotation)?)?;
@@ -79,37 +89,35 @@ impl ExplicitMap {
             node_rows,
             edge_rows,
             firsts,
+            containing,
+            components: parts.components(),
         })
     }
 
-    /// Appends the answer to a line, given without its line feed.
-    #[tactic(auto, unfolding(crate::specs::Answering::answer_so_far))]
-    pub fn answer_line(&self, line: &[u8], text: &mut Vec<u8>) -> Result<(), Memory>
-        ensures { OnOk result (text.new.items ≡ text.old.items ++ answer_so_far (map_of_rotation self.now) line.now) }
+    /// How many nodes there are.
+    fn nodes(&self) -> u32
+        ensures { result ≡ length self.now.nodes }
     {
-        self.append_answer(read_line(line), text)
-            .map_err(|_| Memory)
+        self.rotation.nodes()
     }
 
-    /// Appends the answer to what a line says.
-    fn append_answer(&self, query: Query, text: &mut Vec<u8>) -> Result<(), AllocError>
-        ensures { OnOk result (text.new.items ≡ text.old.items ++ line_answer (map_of_rotation self.now) (line_of query)) }
+    /// How many edges there are.
+    fn edges(&self) -> u32
+        ensures { result ≡ length self.now.edges }
     {
-        match query {
-            Query::Blank => Ok(()),
-            Query::Long => text.extend_from_slice(b"long\n"),
-            Query::Node(_) | Query::Ring(_) | Query::Next(_) | Query::Ends(_) | Query::Sides(_) => {
-                text.extend_from_slice(head(&query).as_slice())?;
-                self.append_items(query, text)?;
-                text.extend_from_slice(b"\n")
-            }
-            _ => text.extend_from_slice(b"bad\n"),
-        }
+        self.rotation.edges()
+    }
+
+    /// How many components there are; an isolated node belongs to none.
+    fn components(&self) -> u32
+        ensures { result ≡ length (components (map_of_rotation self.now)) }
+    {
+        self.components
     }
 
     /// Appends what stands behind the colon of the answer to a query.
     fn append_items(&self, query: Query, text: &mut Vec<u8>) -> Result<(), AllocError>
-        requires { IsAnswered (line_of query) }
+        requires { IsOfRotation (line_of query) }
         ensures { OnOk result (text.new.items ≡ text.old.items ++ after_colon_of (map_of_rotation self.now) (line_of query)) }
     {
         match query {
@@ -156,6 +164,14 @@ impl ExplicitMap {
     {
         let row = *self.node_rows.get(&node.0)?;
         Some(self.firsts[row as usize])
+    }
+
+    /// The face that contains a node or else its component, where the map has the node.
+    fn containing(&self, node: NodeId) -> Option<Option<IdNumber>>
+        ensures { MatchOption result (IsFalse (has_node (map_of_rotation self.now) node.0)) (IsContaining self.now node.0) }
+    {
+        let row = *self.node_rows.get(&node.0)?;
+        Some(self.containing[row as usize])
     }
 
     /// The id of the node that a dart leaves.

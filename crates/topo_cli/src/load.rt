@@ -1,6 +1,6 @@
 //! Loading the tables of a folder.
 
-ghost use Rattle.std.specs.Prelude.{◌≡◌, ◌≤◌, ◌++◌, IfOk, IfErr, IfSome, IsTrue, Ok, codes, length, string_bytes, true, ◌&&◌};
+ghost use Rattle.std.specs.Prelude.{◌≡◌, ◌≤◌, ◌++◌, [], IfOk, IfErr, IfSome, IsTrue, Ok, codes, length, string_bytes, true, ◌&&◌};
 ghost use Rattle.std.specs.List.{list_all};
 ghost use Rattle.ports.specs.Outside.{Files, Rose};
 ghost use Rattle.plane_model.specs.InRange.{is_edge_in_range, is_face_id, is_id, is_in_range, is_none_or};
@@ -12,12 +12,12 @@ ghost use Rattle.topo_cli.specs.Limits.{most_bytes};
 ghost use Rattle.topo_cli.specs.Tables.{loaded, served, table};
 ghost use Rattle.topo_cli.specs.Words.{edge_table, face_table, node_table};
 
-use crate::explicit::ExplicitMap;
+use crate::explicit::placed::PlacedMap;
 use crate::files::{FileFault, read_file};
-use bit_words::Memory;
+use crate::map_check::check_map;
 use plane_model::{EdgeRow, FaceRow, NodeRow, Tables};
 use ports::Shelf;
-use rotation_check::{CheckFault, check};
+use rotation_check::CheckFault;
 use std::alloc::{AllocError, Global};
 use topo_base::Refusal;
 use topo_csv::{CsvFault, read_edges, read_faces, read_nodes};
@@ -71,17 +71,6 @@ impl From<CheckFault> for LoadFault {
             CheckFault::Refused(why) => LoadFault::Refused(why),
             CheckFault::Memory => LoadFault::Memory,
         }
-    }
-}
-
-impl From<Memory> for LoadFault {
-    ghost from_gives = { λ _ e. e ≡ NoMemory };
-
-    ghost use Rattle.std.specs.Prelude.{◌≡◌};
-    ghost use Rattle.topo_cli.specs.declared.load.LoadFault.TheVariants.{Memory as NoMemory};
-
-    fn from(_memory: Memory) -> LoadFault {
-        LoadFault::Memory
     }
 }
 
@@ -160,6 +149,8 @@ fn load_faces<H: Shelf>(alloc: Global, shelf: &mut H, dir: &str) -> Result<Vec<F
 pub fn load_tables<H: Shelf>(alloc: Global, shelf: &mut H, dir: &str) -> Result<Tables, LoadFault>
     ensures loaded { IfOk result (λ tables. IfSome (H.files shelf.old) (λ files. loaded files dir.now ≡ Ok (rows_of tables))) }
     ensures in_range { IfOk result (λ tables. IsTrue (is_in_range (rows_of tables))) }
+    ensures no_regions { IfOk result (λ tables. (rows_of tables).regions ≡ []) }
+    ensures no_members { IfOk result (λ tables. (rows_of tables).members ≡ []) }
     ensures ends { IfErr result (Ends (H.files shelf.old) (λ files. loaded files dir.now)) }
     ensures named { IfErr result (NamesNeeded dir.now) }
     ensures shown { IfErr result (λ e. IsShown e (H.misses shelf.old) (H.misses shelf.new) (H.faults shelf.old) (H.faults shelf.new)) }
@@ -179,8 +170,8 @@ pub fn load_tables<H: Shelf>(alloc: Global, shelf: &mut H, dir: &str) -> Result<
     })
 }
 
-/// The map of a folder whose tables are a rotation system.
-pub fn load_map<H: Shelf>(alloc: Global, shelf: &mut H, dir: &str) -> Result<ExplicitMap, LoadFault>
+/// The map of a folder whose tables are consistent.
+pub fn load_map<H: Shelf>(alloc: Global, shelf: &mut H, dir: &str) -> Result<PlacedMap, LoadFault>
     ensures served { IfOk result (λ map. IfSome (H.files shelf.old) (λ files. Serves map (served files dir.now))) }
     ensures ends { IfErr result (Ends (H.files shelf.old) (λ files. served files dir.now)) }
     ensures named { IfErr result (NamesNeeded dir.now) }
@@ -190,7 +181,5 @@ pub fn load_map<H: Shelf>(alloc: Global, shelf: &mut H, dir: &str) -> Result<Exp
     ensures misses_never_fall { H.misses shelf.old ≤ H.misses shelf.new }
 {
     let tables = load_tables(alloc, shelf, dir)?;
-    let rotation = check(alloc, &tables)?;
-    let map = ExplicitMap::new(alloc, rotation, &tables.nodes)?;
-    Ok(map)
+    Ok(check_map(alloc, &tables)?)
 }

@@ -1,13 +1,15 @@
 //! Answers questions on a map from its PostGIS Topology tables: `tackcherry ask DIR < SCRIPT`.
 #![tactic(auto)]
 
-ghost use Rattle.std.specs.Prelude.{◌≡◌, ◌<◌};
+ghost use Rattle.std.specs.Prelude.{◌≡◌, ◌<◌, map, string_bytes};
+ghost use Rattle.topo_cli.specs.Serving.{EndsOverSystem};
 
 pub mod answer;
 pub mod explicit;
 pub mod files;
 pub mod lines;
 pub mod load;
+pub mod map_check;
 pub mod script;
 pub mod status;
 #[cfg(test)]
@@ -45,6 +47,11 @@ impl From<Error> for WordsFault {
 }
 
 impl From<AllocError> for WordsFault {
+    ghost use Rattle.std.specs.Prelude.{◌≡◌};
+    ghost use Rattle.topo_cli.specs.declared.WordsFault.TheVariants.{Memory};
+
+    ghost from_gives = { λ _ e. e ≡ Memory };
+
     fn from(_error: AllocError) -> WordsFault {
         WordsFault::Memory
     }
@@ -57,7 +64,7 @@ fn collect_words<R: Env + AllocGlobal>(rt: &R) -> Result<Vec<String>, WordsFault
     Ok(words.collect(rt.alloc())?)
 }
 
-/// Runs the program over the files, the input and the output of the system; nobody reads the count of steps.
+/// Runs the program over the files, the input and the output of the system, and ends as `run`; nobody reads the count of steps.
 fn serve<R: Files, I: Read + Drop, O: Write + Drop, L: Ledger>(
     alloc: Global,
     files: &R,
@@ -69,6 +76,7 @@ fn serve<R: Files, I: Read + Drop, O: Write + Drop, L: Ledger>(
     requires name { blank.name ≡ L.name }
     requires parts { blank.parts ≡ L.parts }
     requires some { 0 < blank.parts }
+    ensures { EndsOverSystem (map string_bytes words.now) result }
 {
     let mut shelf = FileShelf::new(files);
     let mut script = StdSource::new(input);

@@ -38,7 +38,7 @@ const TRIANGLE: Folder = Folder {
     faces: Some("face_id\n0\n1\n"),
 };
 
-const CASES: [Case; 20] = [
+const CASES: [Case; 28] = [
     Case {
         shows: "rings of the triangle",
         folder: TRIANGLE,
@@ -47,11 +47,11 @@ const CASES: [Case; 20] = [
         out: "ring 1: 1 2 3\nring -2: -2 -1 -3\nring 9: unknown\nbad\n",
     },
     Case {
-        shows: "nodes, nexts, ends and sides of the triangle",
+        shows: "nodes, nexts, ends, sides, the containing face and the counts of the triangle",
         folder: TRIANGLE,
-        script: b"node 1\nnode 2\nnode 3\nnext -1\nends -1\nsides 1\n",
+        script: b"node 1\nnode 2\nnode 3\nnext -1\nends -1\nsides 1\ncontains 1\ncounts\n",
         status: Status::Done,
-        out: "node 1: 1 -3\nnode 2: -1 2\nnode 3: -2 3\nnext -1: -3\nends -1: 2 1\nsides 1: 1 0\n",
+        out: "node 1: 1 -3\nnode 2: -1 2\nnode 3: -2 3\nnext -1: -3\nends -1: 2 1\nsides 1: 1 0\ncontains 1: 0\ncounts: 3 3 1 1 0\n",
     },
     Case {
         shows: "rounds go clockwise from the smallest",
@@ -73,9 +73,32 @@ const CASES: [Case; 20] = [
             1,1,2,2,-3,1,0\n2,2,3,3,-1,1,0\n3,3,1,1,-2,1,0\n4,4,4,4,-4,2,1\n",
             faces: Some("face_id\n0\n1\n2\n"),
         },
-        script: b"node 5\nnode 4\nring -4\nsides 4\n",
+        script: b"node 5\nnode 4\nring -4\nsides 4\ncontains 4\ncontains 5\ncontains 6\ncounts\n",
         status: Status::Done,
-        out: "node 5:\nnode 4: 4 -4\nring -4: -4\nsides 4: 2 1\n",
+        out: "node 5:\nnode 4: 4 -4\nring -4: -4\nsides 4: 2 1\ncontains 4: 1\ncontains 5: 2\ncontains 6: unknown\ncounts: 5 4 2 2 0\n",
+    },
+    Case {
+        shows: "closed edges that are nested three deep, two of them in one face",
+        folder: Folder {
+            nodes: "node_id,containing_face\n1,\n2,\n3,\n4,\n5,3\n",
+            edges: "edge_id,start_node,end_node,next_left_edge,next_right_edge,left_face,right_face\n\
+            4,4,4,4,-4,4,1\n3,3,3,3,-3,3,2\n2,2,2,2,-2,2,1\n1,1,1,1,-1,1,0\n",
+            faces: Some("face_id\n4\n3\n2\n1\n"),
+        },
+        script: b"contains 1\ncontains 2\ncontains 3\ncontains 4\ncontains 5\ncounts\n",
+        status: Status::Done,
+        out: "contains 1: 0\ncontains 2: 1\ncontains 3: 2\ncontains 4: 1\ncontains 5: 3\ncounts: 5 4 4 4 0\n",
+    },
+    Case {
+        shows: "tables without rows",
+        folder: Folder {
+            nodes: "node_id,containing_face\n",
+            edges: "edge_id,start_node,end_node,next_left_edge,next_right_edge,left_face,right_face\n",
+            faces: Some("face_id\n"),
+        },
+        script: b"contains 1\ncounts\nislands 0\n",
+        status: Status::Done,
+        out: "contains 1: unknown\ncounts: 0 0 0 0 0\nbad\n",
     },
     Case {
         shows: "the columns of edge_data, in another order, all in quotes, with CR LF",
@@ -226,6 +249,77 @@ const CASES: [Case; 20] = [
         script: b"ring 1\n",
         status: Status::TablesRefused,
         out: "refused F14 node=1\n",
+    },
+    Case {
+        shows: "a ring with one wrong side",
+        folder: Folder {
+            edges: "edge_id,start_node,end_node,next_left_edge,next_right_edge,left_face,right_face\n\
+            1,1,2,2,-3,1,0\n2,2,3,3,-1,0,0\n3,3,1,1,-2,1,0\n",
+            ..TRIANGLE
+        },
+        script: b"ring 1\n",
+        status: Status::TablesRefused,
+        out: "refused F15 edge=1 next=2\n",
+    },
+    Case {
+        shows: "two closed edges that cross at their node",
+        folder: Folder {
+            nodes: "node_id,containing_face\n1,\n",
+            edges: "edge_id,start_node,end_node,next_left_edge,next_right_edge,left_face,right_face\n\
+            1,1,1,-2,2,0,0\n2,1,1,1,-1,0,0\n",
+            ..TRIANGLE
+        },
+        script: b"ring 1\n",
+        status: Status::TablesRefused,
+        out: "refused F16 edge=1 nodes=1 edges=2 rings=1\n",
+    },
+    Case {
+        shows: "a node that names a face, before a ring with two faces on a torus",
+        folder: Folder {
+            nodes: "node_id,containing_face\n1,1\n",
+            edges: "edge_id,start_node,end_node,next_left_edge,next_right_edge,left_face,right_face\n\
+            1,1,1,-2,2,0,0\n2,1,1,1,-1,0,1\n",
+            ..TRIANGLE
+        },
+        script: b"ring 1\n",
+        status: Status::TablesRefused,
+        out: "refused F14 node=1\n",
+    },
+    Case {
+        shows: "two closed edges that hold each other",
+        folder: Folder {
+            nodes: "node_id,containing_face\n1,\n2,\n",
+            edges: "edge_id,start_node,end_node,next_left_edge,next_right_edge,left_face,right_face\n\
+            1,1,1,1,-1,1,2\n2,2,2,2,-2,2,1\n",
+            faces: Some("face_id\n1\n2\n"),
+        },
+        script: b"ring 1\n",
+        status: Status::TablesRefused,
+        out: "refused F18 edge=1\n",
+    },
+    Case {
+        shows: "a face on no ring",
+        folder: Folder {
+            nodes: "node_id,containing_face\n1,\n",
+            edges: "edge_id,start_node,end_node,next_left_edge,next_right_edge,left_face,right_face\n\
+            1,1,1,1,-1,1,0\n",
+            faces: Some("face_id\n1\n5\n"),
+        },
+        script: b"ring 1\n",
+        status: Status::TablesRefused,
+        out: "refused F19 face=5\n",
+    },
+    Case {
+        shows: "a closed edge with one face on both sides",
+        folder: Folder {
+            nodes: "node_id,containing_face\n1,\n",
+            edges: "edge_id,start_node,end_node,next_left_edge,next_right_edge,left_face,right_face\n\
+            1,1,1,1,-1,0,0\n",
+            faces: Some("face_id\n"),
+        },
+        script: b"ring 1\n",
+        status: Status::TablesRefused,
+        out: "refused F17 rings=2 faces=1 components=1\n",
     },
     Case {
         shows: "the node table is read before the face table is missed",

@@ -1,8 +1,7 @@
 use Rattle.std.proofs.Common.{◌≡◌, ℕ, ◌∷◌, ◌++◌, List, [], length, ap, sym, ◌∙◌, flat_map, rules, append_assoc, arith}
 use Rattle.std.proofs.lemmas.Bool.{eqb-true}
 use Rattle.topo_base.specs.Script.{lines}
-use Rattle.plane_model.specs.PlaneMap.{PlaneMap}
-use Rattle.rotation_check.specs.Darts.{map_of_rotation}
+use Rattle.plane_model.specs.PlaneMap.{PlaneMap, map_of}
 use Rattle.topo_cli.specs.Answering.{answer_so_far, answers_so_far}
 use Rattle.topo_cli.proofs.Written.{appends_more, part_more}
 use Rattle.topo_cli.proofs.answer.answer_script.Goals as goal
@@ -34,7 +33,7 @@ loop-rest-preserved g c =
       written = (
         before.0 ++ put.0,
         appends_more _ _ _ _ _ before.1 put.1,
-        some_written before.0 put.0 c.put_out_if_full.new.text.items _ (answers_so_far (map_of_rotation c.args.map.now) c.first_line.result.1.now) _
+        some_written before.0 put.0 c.put_out_if_full.new.text.items _ (answers_so_far (map_of c.args.map.now) c.first_line.result.1.now) _
             (gathered _ _ _ _ c.first_line.result.0.now c.loop-rest.rest.now c.first_line.result.1.now _ c.first_line.ensures.lines c.in-Ok.ensures before.2) put.2,
       );
       faults = search rules;

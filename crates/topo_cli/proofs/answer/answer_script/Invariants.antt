@@ -1,6 +1,6 @@
 use Rattle.std.proofs.Common.{◌≡◌, ℕ, ◌≤◌, ◌++◌, List, length}
 use Rattle.std.specs.Io.KnownBytes.{Appends}
-use Rattle.rotation_check.specs.Darts.{map_of_rotation}
+use Rattle.plane_model.specs.PlaneMap.{map_of}
 use Rattle.topo_cli.specs.Answering.{answers_so_far}
 use Rattle.topo_cli.proofs.answer.answer_script.Given as goal
 
@@ -8,7 +8,7 @@ use Rattle.topo_cli.proofs.answer.answer_script.Given as goal
 abbrev pub invariant-loop-rest : goal.invariant-loop-rest
 invariant-loop-rest g l =
     record {
-      written : (done : List ℕ) × Appends (g.K.Sink.held l.fn.out) (g.K.Sink.held l.out) done × (done ++ (l.text.items ++ answers_so_far (map_of_rotation l.map) l.rest) ≡ answers_so_far (map_of_rotation l.map) l.script);
+      written : (done : List ℕ) × Appends (g.K.Sink.held l.fn.out) (g.K.Sink.held l.out) done × (done ++ (l.text.items ++ answers_so_far (map_of l.map) l.rest) ≡ answers_so_far (map_of l.map) l.script);
       faults : g.K.Sink.faults l.fn.out ≤ g.K.Sink.faults l.out;
     }
 
