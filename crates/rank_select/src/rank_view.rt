@@ -49,6 +49,7 @@ impl<'a> RankView<'a> {
     pub fn rank1<C: Ledger>(&self, i: usize, steps: &mut Steps<C>) -> usize
         requires { i ≤ length (counted self.now) }
         ensures rank { result ≡ rank true (counted self.now) i }
+        ensures some_steps { steps.old + 1 ≤ steps.new }
         ensures cost { steps.new ≤ steps.old + 9 }
     {
         let block = i / 512;
@@ -67,6 +68,7 @@ impl<'a> RankView<'a> {
     pub fn rank0<C: Ledger>(&self, i: usize, steps: &mut Steps<C>) -> usize
         requires { i ≤ length (counted self.now) }
         ensures rank { result ≡ rank false (counted self.now) i }
+        ensures some_steps { steps.old + 1 ≤ steps.new }
         ensures cost { steps.new ≤ steps.old + 9 }
     {
         i - self.rank1(i, steps)
@@ -94,6 +96,7 @@ impl<'a> RankView<'a> {
         ensures within { result < blocks (length (counted self.now)) }
         ensures low { rank kind (counted self.now) (512 * result) ≤ j }
         ensures high { j < rank kind (counted self.now) (512 * (result + 1)) }
+        ensures grows { steps.old ≤ steps.new }
         ensures cost { steps.new ≤ steps.old + digits (length (counted self.now)) }
     {
         let mut low = 0;
@@ -144,6 +147,7 @@ impl<'a> RankView<'a> {
         requires high { j < rank kind (counted self.now) (512 * (block + 1)) }
         requires some { j < rank kind (counted self.now) (length (counted self.now)) }
         ensures selected { IsSelected kind (counted self.now) j (Some result) }
+        ensures some_steps { steps.old + 1 ≤ steps.new }
         ensures cost { steps.new ≤ steps.old + 8 }
     {
         let mut left = j - before;
@@ -161,6 +165,7 @@ impl<'a> RankView<'a> {
     /// The place of the bit of this kind that has `j` of its kind before it, or None where there is none.
     fn select<C: Ledger>(&self, kind: bool, j: usize, steps: &mut Steps<C>) -> Option<usize>
         ensures selected { IsSelected kind (counted self.now) j result }
+        ensures some_steps { steps.old + 1 ≤ steps.new }
         ensures cost { steps.new ≤ steps.old + digits (length (counted self.now)) + 10 }
     {
         if self.all_of_kind(kind, steps) <= j {
@@ -175,6 +180,7 @@ impl<'a> RankView<'a> {
     #[tactic(auto, using(crate::proofs::CountLaws::searches))]
     pub fn select1<C: Ledger>(&self, j: usize, steps: &mut Steps<C>) -> Option<usize>
         ensures selected { IsSelected true (counted self.now) j result }
+        ensures some_steps { steps.old + 1 ≤ steps.new }
         ensures cost { steps.new ≤ steps.old + 3 * digits (length (counted self.now) + 2) + 10 }
     {
         self.select(true, j, steps)
@@ -184,6 +190,7 @@ impl<'a> RankView<'a> {
     #[tactic(auto, using(crate::proofs::CountLaws::searches))]
     pub fn select0<C: Ledger>(&self, j: usize, steps: &mut Steps<C>) -> Option<usize>
         ensures selected { IsSelected false (counted self.now) j result }
+        ensures some_steps { steps.old + 1 ≤ steps.new }
         ensures cost { steps.new ≤ steps.old + 3 * digits (length (counted self.now) + 2) + 10 }
     {
         self.select(false, j, steps)

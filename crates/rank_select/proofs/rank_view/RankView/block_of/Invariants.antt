@@ -11,6 +11,7 @@ invariant-loop-high g l = record {
   within : l.high ≤ blocks (length (counted l.self));
   below : rank l.kind (counted l.self) (512 * l.low) ≤ l.j;
   above : l.j < rank l.kind (counted l.self) (512 * l.high);
+  grows : l.initial.steps ≤ l.steps;
   steps : l.steps + digits (l.high - l.low - 1) ≤ l.initial.steps + digits (blocks (length (counted l.self)));
 }
 
