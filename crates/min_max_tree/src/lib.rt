@@ -13,6 +13,7 @@ mod tree;
 mod verify;
 
 pub use build::make;
+pub use scan::{Scan, scan_bits};
 pub use tree::MinMaxView;
 pub use verify::{check, node_count};
 

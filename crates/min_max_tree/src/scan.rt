@@ -9,10 +9,12 @@ use crate::node::Node;
 use bit_words::{BitView, Steps, first_excess, last_excess, ones_below};
 use std::sync::ledger::Ledger;
 
-/// The place where the excess is reached, or how far above it the last place is.
+/// What a scan for a fall of the excess comes to.
 #[derive(Clone, Copy)]
-pub(crate) enum Scan {
+pub enum Scan {
+    /// The nearest place that is so much lower.
     Found(usize),
+    /// How much the excess at the end of the scan is above that.
     Above(u64),
 }
 
@@ -47,8 +49,9 @@ pub(crate) fn scan_word<C: Ledger>(
     }
 }
 
-/// Looks at the bits from `from` to before `to`, word by word.
-pub(crate) fn scan_bits<C: Ledger>(
+/// The first place after `from` and up to `to` where the excess is `need` lower than at `from`, word by word and without
+/// a tree.
+pub fn scan_bits<C: Ledger>(
     bits: &BitView<'_>,
     from: usize,
     to: usize,
@@ -61,6 +64,7 @@ pub(crate) fn scan_bits<C: Ledger>(
     requires need { 1 ≤ need }
     requires small { need ≤ 8589934592 }
     ensures scanned { Scanned (bits_of bits.now) need from to result }
+    ensures grows { steps.old ≤ steps.new }
     ensures cost { steps.new ≤ steps.old + ((to + 63) / 64 - from / 64) }
 {
     let mut at = from;
@@ -122,6 +126,7 @@ pub(crate) fn scan_bits_back<C: Ledger>(
     requires need { 1 ≤ need }
     requires small { need ≤ 8589934592 }
     ensures scanned { ScannedBack (bits_of bits.now) need from to result }
+    ensures grows { steps.old ≤ steps.new }
     ensures cost { steps.new ≤ steps.old + ((to + 63) / 64 - from / 64) }
 {
     let mut at = to;
@@ -150,6 +155,7 @@ pub(crate) fn ones_between<C: Ledger>(
     requires word { from % 64 ≡ 0 }
     requires within { to ≤ length (bits_of bits.now) }
     ensures ones { rank true (bits_of bits.now) from + result ≡ rank true (bits_of bits.now) to }
+    ensures grows { steps.old ≤ steps.new }
     ensures cost { steps.new ≤ steps.old + ((to + 63) / 64 - from / 64) }
 {
     let mut ones: u64 = 0;
@@ -194,6 +200,7 @@ pub(crate) fn run_of_bits<C: Ledger>(
     requires order { from ≤ to }
     requires within { to ≤ length (bits_of bits.now) }
     ensures run { IsRun (bits_of bits.now) from to result }
+    ensures grows { steps.old ≤ steps.new }
     ensures cost { steps.new ≤ steps.old + ((to + 63) / 64 - from / 64) }
 {
     let mut at = from;

@@ -91,6 +91,7 @@ impl<'a> MinMaxView<'a> {
         requires need { 1 ≤ need }
         requires small { need ≤ 8589934592 }
         ensures sibling { Sibling (searched self.now) level.height j need result }
+        ensures grows { steps.old ≤ steps.new }
         ensures cost { steps.new ≤ steps.old + 1 }
     {
         if j % 2 == 1 {
@@ -110,6 +111,7 @@ impl<'a> MinMaxView<'a> {
         ensures found { IfSome result (LeadsTo (searched self.now) (node_to (length (searched self.now)) 0 block) need) }
         ensures low { IfSome result (λ spot. spot.level.height ≤ digits (length (searched self.now))) }
         ensures none { IfNone result (StaysAbove (searched self.now) (excess (searched self.now) (node_to (length (searched self.now)) 0 block) -ℤ pos need) (node_to (length (searched self.now)) 0 block) (length (searched self.now))) }
+        ensures grows { steps.old ≤ steps.new }
         ensures cost { steps.new ≤ steps.old + digits (length (searched self.now)) }
     {
         let len = self.bits.len();
@@ -166,6 +168,7 @@ impl<'a> MinMaxView<'a> {
         requires small { from.need ≤ 6442450944 }
         ensures leads { LeadsTo (searched self.now) (node_from from.level.height from.j) from.need result }
         ensures height { result.level.height ≡ 0 }
+        ensures grows { steps.old ≤ steps.new }
         ensures cost { steps.new ≤ steps.old + from.level.height }
     {
         let mut spot = from;
@@ -181,6 +184,7 @@ impl<'a> MinMaxView<'a> {
         requires within { i ≤ length (searched self.now) }
         requires some { 1 ≤ drop }
         ensures next { IsNext (λ p. excess (searched self.now) p ≡ excess (searched self.now) i -ℤ pos drop) i (length (searched self.now)) result }
+        ensures grows { steps.old ≤ steps.new }
         ensures cost { steps.new ≤ steps.old + 4 * digits (length (searched self.now) + 2) + 40 }
     {
         let len = self.bits.len();
@@ -205,6 +209,7 @@ impl<'a> MinMaxView<'a> {
         requires small { need ≤ 4294967296 }
         ensures found { IfSome result (Reaches (searched self.now) (excess (searched self.now) (node_to (length (searched self.now)) 0 block) -ℤ pos need) (node_to (length (searched self.now)) 0 block) (length (searched self.now))) }
         ensures none { IfNone result (StaysAbove (searched self.now) (excess (searched self.now) (node_to (length (searched self.now)) 0 block) -ℤ pos need) (node_to (length (searched self.now)) 0 block) (length (searched self.now))) }
+        ensures grows { steps.old ≤ steps.new }
         ensures cost { steps.new ≤ steps.old + 2 * digits (length (searched self.now)) + 8 }
     {
         match self.climb(block, need, steps) {
@@ -222,6 +227,7 @@ impl<'a> MinMaxView<'a> {
         requires height { spot.level.height ≡ 0 }
         requires small { spot.need ≤ 8589934592 }
         ensures found { Reaches (searched self.now) (excess (searched self.now) (node_from 0 spot.j) -ℤ pos spot.need) (node_from 0 spot.j) (length (searched self.now)) result }
+        ensures grows { steps.old ≤ steps.new }
         ensures cost { steps.new ≤ steps.old + 8 }
     {
         let from = 512 * spot.j;
@@ -262,6 +268,7 @@ impl<'a> MinMaxView<'a> {
         requires need { 1 ≤ need }
         requires small { need ≤ 8589934592 }
         ensures sibling { SiblingBack (searched self.now) level.height j need result }
+        ensures grows { steps.old ≤ steps.new }
         ensures cost { steps.new ≤ steps.old + 1 }
     {
         if j % 2 == 0 {
@@ -278,6 +285,7 @@ impl<'a> MinMaxView<'a> {
         ensures found { IfSome result (LeadsBack (searched self.now) (node_from 0 block) need) }
         ensures low { IfSome result (λ spot. spot.level.height ≤ digits (length (searched self.now))) }
         ensures none { IfNone result (WasAbove (searched self.now) (excess (searched self.now) (node_from 0 block) -ℤ pos need) 0 (node_from 0 block)) }
+        ensures grows { steps.old ≤ steps.new }
         ensures cost { steps.new ≤ steps.old + digits (length (searched self.now)) }
     {
         let len = self.bits.len();
@@ -310,6 +318,7 @@ impl<'a> MinMaxView<'a> {
         requires small { spot.need ≤ 8589934592 }
         ensures leads { LeadsBack (searched self.now) (node_to (length (searched self.now)) spot.level.height spot.j) spot.need result }
         ensures height { result.level.height + 1 ≡ spot.level.height }
+        ensures grows { steps.old ≤ steps.new }
         ensures cost { steps.new ≤ steps.old + 1 }
     {
         let len = self.bits.len();
@@ -343,6 +352,7 @@ impl<'a> MinMaxView<'a> {
         requires small { from.need ≤ 6442450944 }
         ensures leads { LeadsBack (searched self.now) (node_to (length (searched self.now)) from.level.height from.j) from.need result }
         ensures height { result.level.height ≡ 0 }
+        ensures grows { steps.old ≤ steps.new }
         ensures cost { steps.new ≤ steps.old + from.level.height }
     {
         let mut spot = from;
@@ -358,6 +368,7 @@ impl<'a> MinMaxView<'a> {
         requires height { spot.level.height ≡ 0 }
         requires small { spot.need ≤ 8589934592 }
         ensures found { Leaves (searched self.now) (excess (searched self.now) (node_to (length (searched self.now)) 0 spot.j) -ℤ pos spot.need) 0 (node_to (length (searched self.now)) 0 spot.j) result }
+        ensures grows { steps.old ≤ steps.new }
         ensures cost { steps.new ≤ steps.old + 8 }
     {
         let from = 512 * spot.j;
@@ -375,6 +386,7 @@ impl<'a> MinMaxView<'a> {
         requires small { need ≤ 4294967296 }
         ensures found { IfSome result (Leaves (searched self.now) (excess (searched self.now) (node_from 0 block) -ℤ pos need) 0 (node_from 0 block)) }
         ensures none { IfNone result (WasAbove (searched self.now) (excess (searched self.now) (node_from 0 block) -ℤ pos need) 0 (node_from 0 block)) }
+        ensures grows { steps.old ≤ steps.new }
         ensures cost { steps.new ≤ steps.old + 2 * digits (length (searched self.now)) + 8 }
     {
         match self.climb_back(block, need, steps) {
@@ -391,6 +403,7 @@ impl<'a> MinMaxView<'a> {
         requires within { i ≤ length (searched self.now) }
         requires some { 1 ≤ drop }
         ensures last { IsLast (λ p. excess (searched self.now) p ≡ excess (searched self.now) i -ℤ pos drop) 0 i result }
+        ensures grows { steps.old ≤ steps.new }
         ensures cost { steps.new ≤ steps.old + 4 * digits (length (searched self.now) + 2) + 40 }
     {
         if i == 0 {
@@ -413,6 +426,7 @@ impl<'a> MinMaxView<'a> {
         requires low { 4294967296 ≤ rise }
         requires high { rise ≤ 2199023255552 }
         ensures rise { excess (searched self.now) (node_from (level.height + 1) (j / 2)) +ℤ pos result ≡ excess (searched self.now) (node_from level.height j) +ℤ pos rise }
+        ensures grows { steps.old ≤ steps.new }
         ensures cost { steps.new ≤ steps.old + j % 2 }
     {
         if j % 2 == 0 {
@@ -426,6 +440,7 @@ impl<'a> MinMaxView<'a> {
     fn before_block<C: Ledger>(&self, block: usize, steps: &mut Steps<C>) -> u64
         requires within { 512 * block ≤ length (searched self.now) }
         ensures value { pos result ≡ excess (searched self.now) (512 * block) +ℤ pos 1099511627776 }
+        ensures grows { steps.old ≤ steps.new }
         ensures cost { steps.new ≤ steps.old + digits block }
     {
         let len = self.bits.len();
@@ -444,6 +459,7 @@ impl<'a> MinMaxView<'a> {
     pub fn excess<C: Ledger>(&self, i: usize, steps: &mut Steps<C>) -> i64
         requires { i ≤ length (searched self.now) }
         ensures value { result ≡ excess (searched self.now) i }
+        ensures grows { steps.old ≤ steps.new }
         ensures cost { steps.new ≤ steps.old + 2 * digits (length (searched self.now) + 2) + 9 }
     {
         let block = i / 512;
@@ -480,6 +496,7 @@ impl<'a> MinMaxView<'a> {
         requires order { first ≤ last }
         requires within { 512 * last ≤ length (searched self.now) }
         ensures run { IsRun (searched self.now) (512 * first) (512 * last) result }
+        ensures grows { steps.old ≤ steps.new }
         ensures cost { steps.new ≤ steps.old + 2 * digits last }
     {
         let len = self.bits.len();
@@ -505,6 +522,7 @@ impl<'a> MinMaxView<'a> {
         requires order { from ≤ to }
         requires within { to ≤ length (searched self.now) }
         ensures run { IsRun (searched self.now) from to result }
+        ensures grows { steps.old ≤ steps.new }
         ensures cost { steps.new ≤ steps.old + 2 * digits (to / 512) + 16 }
     {
         let first = from / 512 + 1;
@@ -523,6 +541,7 @@ impl<'a> MinMaxView<'a> {
         requires order { from ≤ to }
         requires within { to ≤ length (searched self.now) }
         ensures least { result ≡ least (excess (searched self.now)) from (to - from) }
+        ensures grows { steps.old ≤ steps.new }
         ensures cost { steps.new ≤ steps.old + 4 * digits (length (searched self.now) + 2) + 40 }
     {
         let start = self.excess(from, steps);

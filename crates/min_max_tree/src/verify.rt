@@ -39,6 +39,7 @@ fn parent_seen<C: Ledger>(
     requires size { start_at (length (bits_of bits.now)) (level.height + 1) ≤ length (words_of nodes.now) }
     requires holds { Holds (nodes_of (bits_of bits.now)) (words_of nodes.now) (start_at (length (bits_of bits.now)) (level.height + 1)) }
     ensures run { IsRun (bits_of bits.now) (node_from (level.height + 1) j) (node_to (length (bits_of bits.now)) (level.height + 1) j) result }
+    ensures some_steps { steps.old + 1 ≤ steps.new }
     ensures cost { steps.new ≤ steps.old + 2 }
 {
     let at = level.start + 2 * j;
@@ -58,6 +59,7 @@ fn check_lowest<C: Ledger>(
     requires few { length (bits_of bits.now) ≤ 2147483647 }
     requires size { length (words_of nodes.now) ≡ tree_size (length (bits_of bits.now)) }
     ensures checked { MatchResult result (λ _. Holds (nodes_of (bits_of bits.now)) (words_of nodes.now) (start_at (length (bits_of bits.now)) 1)) (IsFirstWrong (nodes_of (bits_of bits.now)) (words_of nodes.now)) }
+    ensures grows { steps.old ≤ steps.new }
     ensures cost { steps.new ≤ steps.old + length (bits_of bits.now) + start_at (length (bits_of bits.now)) 1 }
 {
     let len = bits.len();
@@ -88,6 +90,7 @@ fn check_parents<C: Ledger>(
     requires more { 1 < size_at (length (bits_of bits.now)) level.height }
     requires holds { Holds (nodes_of (bits_of bits.now)) (words_of nodes.now) (start_at (length (bits_of bits.now)) (level.height + 1)) }
     ensures checked { MatchResult result (λ _. Holds (nodes_of (bits_of bits.now)) (words_of nodes.now) (start_at (length (bits_of bits.now)) (level.height + 2))) (IsFirstWrong (nodes_of (bits_of bits.now)) (words_of nodes.now)) }
+    ensures grows { steps.old ≤ steps.new }
     ensures cost { steps.new + 3 * start_at (length (bits_of bits.now)) (level.height + 1) ≤ steps.old + 3 * start_at (length (bits_of bits.now)) (level.height + 2) }
 {
     let len = bits.len();
@@ -116,6 +119,7 @@ fn check_levels<C: Ledger>(
     requires few { length (bits_of bits.now) ≤ 2147483647 }
     requires size { length (words_of nodes.now) ≡ tree_size (length (bits_of bits.now)) }
     ensures checked { MatchResult result (λ _. words_of nodes.now ≡ nodes_of (bits_of bits.now)) (IsFirstWrong (nodes_of (bits_of bits.now)) (words_of nodes.now)) }
+    ensures grows { steps.old ≤ steps.new }
     ensures cost { steps.new ≤ steps.old + 4 * length (bits_of bits.now) + 16 }
 {
     let len = bits.len();
@@ -137,6 +141,7 @@ pub fn check<C: Ledger>(
     requires few { length (bits_of bits) ≤ 2147483647 }
     requires size { length (words_of nodes) ≡ tree_size (length (bits_of bits)) }
     ensures checked { MatchResult result (λ _. words_of nodes.entry ≡ nodes_of (bits_of bits.entry)) (IsFirstWrong (nodes_of (bits_of bits.entry)) (words_of nodes.entry)) }
+    ensures grows { steps.old ≤ steps.new }
     ensures cost { steps.new ≤ steps.old + 4 * length (bits_of bits.entry) + 16 }
 {
     check_levels(&bits, &nodes, steps)

@@ -10,6 +10,7 @@ loop-at-init g c = record {
   run = rw c.empty-run.ensures (run-none (bits_of c.args.bits.now) c.args.from);
   first = search rules;
   later = search rules;
+  grows = search rules;
   count = search rules;
 }
 
@@ -27,5 +28,6 @@ loop-at-preserved g c =
       run = rw c.joined-run.ensures (run-joined (bits_of c.args.bits.now) c.args.from c.loop-at.at c.min-end.result c.loop-at.run c.run_of_word.result i.low (omega arith) i.run c.run_of_word.ensures.run c.requires.few (omega arith));
       first = search rules;
       later = search rules;
+      grows = search rules;
       count = search rules;
     }

@@ -10,6 +10,7 @@ invariant-loop-at g l = record {
   run : IsRun (bits_of l.bits) l.from l.at l.run;
   first : l.at ≡ l.from → l.steps ≡ l.initial.steps;
   later : l.from < l.at → l.at < l.to → l.at % 64 ≡ 0;
+  grows : l.initial.steps ≤ l.steps;
   count : l.steps ≤ l.initial.steps + ((l.at + 63) / 64 - l.from / 64);
 }
 

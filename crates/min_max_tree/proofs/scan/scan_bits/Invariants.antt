@@ -12,6 +12,7 @@ invariant-loop-at g l = record {
   rests : Rests (bits_of l.bits) (excess (bits_of l.bits) l.from -ℤ pos l.need) l.from l.at l.need l.left;
   first : l.at ≡ l.from → l.steps ≡ l.initial.steps;
   later : l.from < l.at → l.at < l.to → l.at % 64 ≡ 0;
+  grows : l.initial.steps ≤ l.steps;
   count : l.steps ≤ l.initial.steps + ((l.at + 63) / 64 - l.from / 64);
 }
 

@@ -10,6 +10,7 @@ invariant-loop-at g l = record {
   low : l.from ≤ l.at;
   high : l.at ≤ l.to;
   remains : Remains (bits_of l.bits) (excess (bits_of l.bits) l.to -ℤ pos l.need) l.at l.to l.need l.left;
+  grows : l.initial.steps ≤ l.steps;
   count : l.steps + (l.at + 63) / 64 ≤ l.initial.steps + (l.to + 63) / 64;
 }
 

@@ -10,6 +10,7 @@ abbrev pub invariant-loop-level : goal.invariant-loop-level
 invariant-loop-level g l = record {
   level : IsLevel (length (bits_of l.bits)) l.level;
   holds : Holds (nodes_of (bits_of l.bits)) (words_of l.nodes) (start_at (length (bits_of l.bits)) (l.level.height + 1));
+  grows : l.initial.steps ≤ l.steps;
   steps : l.steps + 3 * start_at (length (bits_of l.bits)) 1 ≤ l.initial.steps + 3 * start_at (length (bits_of l.bits)) (l.level.height + 1);
 }
 

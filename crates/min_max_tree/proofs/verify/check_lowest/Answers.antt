@@ -59,6 +59,7 @@ loop-block-preserved g c =
           c.word-found.ensures.word
           (c.word-want.ensures ∙ node-word bits 0 j j c.run_of_bits.result c.requires.few (λ h q. absurd (omega arith)) w r at)
           c.if-found-want.false refl;
+      grows = omega arith;
       steps = omega (arith, c.len-len.ensures, c.div_ceil-block-end.ensures, c.loop-block-test.true, c.min.ensures, c.run_of_bits.ensures.cost, c.word-found.ensures.one_step, c.loop-block.invariant.steps);
     }
 

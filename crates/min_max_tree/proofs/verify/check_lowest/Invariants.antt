@@ -8,5 +8,6 @@ use Rattle.min_max_tree.proofs.verify.check_lowest.Given as goal
 abbrev pub invariant-loop-block : goal.invariant-loop-block
 invariant-loop-block g l = record {
   holds : Holds (nodes_of (bits_of l.bits)) (words_of l.nodes) l.block;
+  grows : l.initial.steps ≤ l.steps;
   steps : l.steps ≤ l.initial.steps + min (length (bits_of l.bits)) (512 * l.block) + l.block;
 }

@@ -93,6 +93,7 @@ loop-j-preserved g c =
           c.word-found.ensures.word
           (c.word-want.ensures ∙ node-word bits (h + 1) j at c.parent_seen.result c.requires.few reached w c.parent_seen.ensures.run e)
           c.if-found-want.false (omega (arith, e));
+      grows = omega arith;
       steps = omega (arith, c.word-found.ensures.one_step, c.parent_seen.ensures.cost, c.loop-j.invariant.steps);
     }
 

@@ -8,5 +8,6 @@ use Rattle.min_max_tree.proofs.verify.check_parents.Given as goal
 abbrev pub invariant-loop-j : goal.invariant-loop-j
 invariant-loop-j g l = record {
   holds : Holds (nodes_of (bits_of l.bits)) (words_of l.nodes) (start_at (length (bits_of l.bits)) (l.level.height + 1) + l.j);
+  grows : l.initial.steps ≤ l.steps;
   steps : l.steps ≤ l.initial.steps + 3 * l.j;
 }

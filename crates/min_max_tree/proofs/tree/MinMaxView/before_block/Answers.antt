@@ -16,6 +16,7 @@ loop-j-init g c =
       level = c.lowest-level.ensures.level _;
       within = rw e c.requires.within;
       rise = ap (λ x. excess bits x +ℤ pos 1099511627776) e;
+      grows = omega arith;
       steps = omega arith;
     }
 
@@ -36,6 +37,7 @@ loop-j-preserved g c =
       level = subst (λ n. IsLevel n c.above-level.result) c.len-len.ensures c.above-level.ensures.level;
       within = rw e (half-within (length bits) h c.loop-j.j i.within);
       rise = rw e (c.add_left-rise.ensures.rise ∙ i.rise);
+      grows = omega arith;
       steps = omega arith;
     }
 

@@ -23,6 +23,7 @@ loop-low-init g c =
       last = omega arith;
       left = rw (a, c.empty-left.ensures) (run-none bits (512 * c.args.first));
       right = rw (b, c.empty-right.ensures) (run-none bits (512 * c.args.last));
+      grows = omega arith;
       steps = omega arith;
     }
 
@@ -74,6 +75,7 @@ loop-low-preserved g c =
       last = rw e (omega (arith, q, b, i.last));
       left = left-up bits (512 * c.args.first) h low c.above-level.result.height up c.loop-low.left c.one_or_none.result c.joined-left.result c.args.self.now.few i.first (omega (arith, end, i.last, c.requires.within)) i.left c.one_or_none.ensures.run e f c.joined-left.ensures;
       right = right-up bits (512 * c.args.last) h high c.above-level.result.height c.one_or_none-in-loop-low.result c.loop-low.right c.joined-right.result c.args.self.now.few i.last c.requires.within c.one_or_none-in-loop-low.ensures.run i.right e c.joined-right.ensures;
+      grows = omega arith;
       steps = omega (arith, d, i.steps, c.one_or_none.ensures.cost, c.one_or_none-in-loop-low.ensures.cost);
     }
 

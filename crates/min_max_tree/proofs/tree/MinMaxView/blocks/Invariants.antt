@@ -18,6 +18,7 @@ invariant-loop-low g l =
       last : node_from h l.high ≤ 512 * l.last;
       left : IsRun bits (512 * l.first) (node_from h l.low) l.left;
       right : IsRun bits (node_from h l.high) (512 * l.last) l.right;
+      grows : l.initial.steps ≤ l.steps;
       steps : l.steps + 2 * digits l.high ≤ l.initial.steps + 2 * digits l.last;
     }
 

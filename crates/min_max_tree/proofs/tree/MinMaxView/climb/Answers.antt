@@ -16,6 +16,7 @@ loop-level-init g c = record {
   within = search rules;
   order = search rules;
   rests = search rules;
+  grows = search rules;
   steps = search rules;
   height = search rules;
 }
@@ -80,6 +81,7 @@ loop-level-preserved g c =
       within = rw e (parent-there len h j i.within);
       order = rw e (omega arith);
       rests = rw e (climb_on bits h low j c.args.need c.loop-level.left c.in-Passed.more i.order up i.rests c.in-Passed.ensures.sibling);
+      grows = omega arith;
       steps = omega arith;
       height = omega arith;
     }

@@ -16,6 +16,7 @@ loop-j-init g c = record {
   within = search rules;
   order = search rules;
   remains = search rules;
+  grows = search rules;
   steps = search rules;
   height = search rules;
 }
@@ -71,6 +72,7 @@ loop-j-preserved g c =
       within = rw e (parent-there len h j i.within);
       order = rw e (omega (arith, up, i.order));
       remains = rw e (join_remains bits (excess bits high -ℤ pos c.args.need) (node_from h j) high c.args.need c.loop-j.left i.remains i.order (node_from (h + 1) (j / 2)) c.in-Passed.more up c.in-Passed.ensures.sibling);
+      grows = omega arith;
       steps = omega (arith, d, i.steps, c.sibling_back.ensures.cost);
       height = omega (arith, d, e, i.height);
     }

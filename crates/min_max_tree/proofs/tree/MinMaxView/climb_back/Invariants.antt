@@ -17,6 +17,7 @@ invariant-loop-j g l =
       within : l.j < size_at (length bits) l.level.height;
       order : node_from l.level.height l.j ≤ high;
       remains : Remains bits (excess bits high -ℤ pos l.need) (node_from l.level.height l.j) high l.need l.left;
+      grows : l.initial.steps ≤ l.steps;
       steps : l.steps + digits l.j ≤ l.initial.steps + digits l.block;
       height : l.level.height + digits l.j ≤ digits l.block;
     }

@@ -6,12 +6,14 @@ use Rattle.min_max_tree.proofs.tree.MinMaxView.descend_back.Goals as goal
 pub loop-spot-init : goal.loop-spot-init
 loop-spot-init g c = record {
   leads = leads_back_none (searched c.args.self.now) c.args.from c.requires.spot;
+  grows = omega arith;
   steps = omega arith;
 }
 
 pub loop-spot-preserved : goal.loop-spot-preserved
 loop-spot-preserved g c = record {
   leads = leads_back_on (searched c.args.self.now) _ _ c.loop-spot.spot c.child_back-spot.result c.loop-spot.invariant.leads c.child_back-spot.ensures.leads;
+  grows = omega arith;
   steps = omega arith;
 }
 

@@ -7,6 +7,7 @@ use Rattle.min_max_tree.proofs.tree.MinMaxView.descend_back.Given as goal
 abbrev pub invariant-loop-spot : goal.invariant-loop-spot
 invariant-loop-spot g l = record {
   leads : LeadsBack (searched l.self) (node_to (length (searched l.self)) l.fn.from.level.height l.fn.from.j) l.fn.from.need l.spot;
+  grows : l.initial.steps ≤ l.steps;
   steps : l.steps + l.spot.level.height ≤ l.initial.steps + l.fn.from.level.height;
 }
 
