@@ -16,6 +16,7 @@ pub fn check<C: Ledger>(
     requires few { length (fields_of ids) ≤ 16777216 }
     requires count { length (fields_of order) ≡ length (fields_of ids) }
     ensures checked { MatchResult result (λ _. name_fault (fields_of ids.entry) (fields_of order.entry) ≡ None) (λ j. name_fault (fields_of ids.entry) (fields_of order.entry) ≡ Some j) }
+    ensures grows { steps.old ≤ steps.new }
     ensures cost { steps.new ≤ steps.old + 4 * length (fields_of ids.entry) + 4 }
 {
     let mut last = 0;

@@ -59,6 +59,7 @@ impl<'a> NamesView<'a> {
     pub fn number_of<C: Ledger>(&self, id: IdNumber, steps: &mut Steps<C>) -> Option<usize>
         ensures number { result ≡ number_of (ids_of self.now) id }
         ensures found { MatchOption result ((k : ℕ) → k < length (ids_of self.now) → slice_index (ids_of self.now) k ≢ id) (λ number. (number < length (ids_of self.now)) × (slice_index (ids_of self.now) number ≡ id)) }
+        ensures grows { steps.old ≤ steps.new }
         ensures cost { steps.new ≤ steps.old + 4 * digits (length (ids_of self.now) + 2) + 6 }
     {
         let mut low = 0;

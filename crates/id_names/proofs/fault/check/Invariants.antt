@@ -8,5 +8,6 @@ invariant-loop-place g l = record {
   named : (k : ℕ) → k < l.place → is_named (fields_of l.ids) (fields_of l.order) k ≡ true;
   first : l.place ≡ 0 → l.last ≡ 0;
   later : 0 < l.place → l.last ≡ id_at (fields_of l.ids) (fields_of l.order) (l.place - 1);
+  grows : l.initial.steps ≤ l.steps;
   steps : l.steps ≤ l.initial.steps + 4 * l.place;
 }

@@ -26,6 +26,7 @@ loop-low-preserved-in-Less g c =
       within = c.loop-low.invariant.within;
       below = not_earlier ids order v.count v.right c.args.id j (omega (arith, less_is c.id_of.result c.args.id (sym c.cmp.ensures ∙ c.in-Less.is))) (omega arith);
       above = c.loop-low.invariant.above;
+      grows = omega arith;
       steps = omega (arith, digits-halved (high - (j + 1)) (high - low) (omega arith) (omega arith));
     }
 
@@ -65,6 +66,7 @@ loop-low-preserved g c =
       within = omega arith;
       below = c.loop-low.invariant.below;
       above = not_later ids order v.count v.right c.args.id j (omega (arith, greater_is c.id_of.result c.args.id (sym c.cmp.ensures ∙ c.in-Greater.is))) (omega arith);
+      grows = omega arith;
       steps = omega (arith, digits-halved (j - low) (high - low) (omega arith) (omega arith));
     }
 

@@ -10,6 +10,7 @@ invariant-loop-low g l = record {
   within : l.high ≤ length (fields_of l.self.ids);
   below : (k : ℕ) → k < l.low → id_at (fields_of l.self.ids) (fields_of l.self.order) k < l.id;
   above : (k : ℕ) → l.high ≤ k → k < length (fields_of l.self.order) → l.id < id_at (fields_of l.self.ids) (fields_of l.self.order) k;
+  grows : l.initial.steps ≤ l.steps;
   steps : l.steps + 4 * digits (l.high - l.low) ≤ l.initial.steps + 4 * digits (length (fields_of l.self.ids));
 }
 
