@@ -54,6 +54,7 @@ impl<'a> ParenView<'a> {
         ensures back { mate_of (parens_of self.now) result ≡ i }
         ensures forward { IsTrue (is_open (parens_of self.now) i) ↔ (i < result) }
         ensures pair { IsPair (parens_of self.now) (min i result) (max i result) }
+        ensures some_steps { steps.old + 1 ≤ steps.new }
         ensures cost { steps.new ≤ steps.old + 4 * digits (length (parens_of self.now) + 2) + 41 }
     {
         if self.is_open(i, steps) {
@@ -67,6 +68,7 @@ impl<'a> ParenView<'a> {
     fn close<C: Ledger>(&self, i: usize, steps: &mut Steps<C>) -> usize
         requires { is_open (parens_of self.now) i ≡ true }
         ensures pair { IsPair (parens_of self.now) i result }
+        ensures grows { steps.old ≤ steps.new }
         ensures cost { steps.new ≤ steps.old + 4 * digits (length (parens_of self.now) + 2) + 40 }
     {
         match self.tree.forward(i + 1, 1, steps) {
@@ -80,6 +82,7 @@ impl<'a> ParenView<'a> {
         requires within { j < length (parens_of self.now) }
         requires closes { is_open (parens_of self.now) j ≡ false }
         ensures pair { IsPair (parens_of self.now) result j }
+        ensures grows { steps.old ≤ steps.new }
         ensures cost { steps.new ≤ steps.old + 4 * digits (length (parens_of self.now) + 2) + 40 }
     {
         match self.tree.backward(j, 1, steps) {
@@ -104,6 +107,7 @@ impl<'a> ParenView<'a> {
         ensures pair { result ≡ innermost (parens_of self.now) gap }
         ensures none { IsNone result ↔ (excess (parens_of self.now) gap ≡ pos 0) }
         ensures innermost { IfSome result (IsInnermost (parens_of self.now) gap) }
+        ensures grows { steps.old ≤ steps.new }
         ensures cost { steps.new ≤ steps.old + 4 * digits (length (parens_of self.now) + 2) + 40 }
     {
         self.tree.backward(gap, 1, steps)
@@ -113,6 +117,7 @@ impl<'a> ParenView<'a> {
     pub fn opens_before<C: Ledger>(&self, i: usize, steps: &mut Steps<C>) -> usize
         requires { i ≤ length (parens_of self.now) }
         ensures opens { result ≡ rank true (parens_of self.now) i }
+        ensures some_steps { steps.old + 1 ≤ steps.new }
         ensures cost { steps.new ≤ steps.old + 9 }
     {
         self.ranks.rank1(i, steps)
@@ -121,6 +126,7 @@ impl<'a> ParenView<'a> {
     /// The opening place with `j` opening places before it, or None where at most `j` places open.
     pub fn open_at<C: Ledger>(&self, j: usize, steps: &mut Steps<C>) -> Option<usize>
         ensures place { IsSelected true (parens_of self.now) j result }
+        ensures some_steps { steps.old + 1 ≤ steps.new }
         ensures cost { steps.new ≤ steps.old + 3 * digits (length (parens_of self.now) + 2) + 10 }
     {
         self.ranks.select1(j, steps)
@@ -134,6 +140,7 @@ impl<'a> ParenView<'a> {
         ensures itself { i ≡ j → result ≡ Some i }
         ensures none { IsNone result ↔ ((k : ℕ) → IsOver (parens_of self.now) k i → ¬ IsOver (parens_of self.now) k j) }
         ensures common { IfSome result (IsCommon (parens_of self.now) i j) }
+        ensures grows { steps.old ≤ steps.new }
         ensures cost { steps.new ≤ steps.old + 12 * digits (length (parens_of self.now) + 2) + 100 }
     {
         let low = i.min(j);
@@ -147,6 +154,7 @@ impl<'a> ParenView<'a> {
         requires within { to ≤ length (parens_of self.now) }
         ensures fall { pos result ≡ excess (parens_of self.now) from -ℤ least (excess (parens_of self.now)) from (to - from) }
         ensures small { result ≤ from }
+        ensures grows { steps.old ≤ steps.new }
         ensures cost { steps.new ≤ steps.old + 6 * digits (length (parens_of self.now) + 2) + 49 }
     {
         let least = self.tree.least_between(from, to, steps);
