@@ -1,65 +1,27 @@
 -- The numbers of the innermost pairs round the gaps beside an arc.
-use Rattle.std.specs.Prelude.{ℤ, pos, ◌+ℤ◌, ◌-ℤ◌, ◌<ℤ◌, ◌≤ℤ◌, find, option_map}
-use Rattle.std.proofs.Common.{◌≡◌, ◌≢◌, ℕ, zero, suc, ◌+◌, ◌-◌, ◌<◌, ◌≤◌, ◌⊎◌, inl, inr, Bool, true, false, ◌&&◌, List, [], ◌∷◌, length, get_or, refl, ap, sym, ◌∙◌, arith, subst, Option, Some, None, ◌==◌, add-one}
-use Rattle.std.proofs.lemmas.Bool.{cases_lt, cases_Bool, and_parts, ne_eqb, false_from_ne_true, both_ways}
+use Rattle.std.specs.Prelude.{pos, option_map}
+use Rattle.std.proofs.Common.{◌≡◌, ℕ, ◌+◌, ◌<◌, ◌≤◌, inl, inr, Bool, true, false, List, length, refl, ap, arith, subst, Option, Some, None}
+use Rattle.std.proofs.lemmas.Bool.{cases_lt, and_parts, ne_eqb, false_from_ne_true, both_ways}
 use Rattle.std.proofs.lemmas.Int.{ints}
 use Rattle.bit_words.specs.Bits.{rank, excess}
 use Rattle.bit_words.proofs.Ranks.{rank-le-rank, rank_more_yes}
 use Rattle.parens.proofs.Balances.{IsBalanced}
-use Rattle.parens.specs.Matching.{is_open, close_of, is_from, is_round, falling, innermost}
-use Rattle.parens.proofs.Arcs.{IsArc, open_where_up}
-use Rattle.parens.proofs.Rounds.{IsAbove, round-above, innermost-past, innermost-first, innermost-end, round_inside, not_round_after}
+use Rattle.parens.specs.Matching.{is_open, close_of, is_from, is_round, innermost}
+use Rattle.parens.proofs.Arcs.{IsArc, arc-opens}
+use Rattle.parens.proofs.Greatest.{greatest-find, no_falling-find, find-no_falling}
+use Rattle.parens.proofs.Rounds.{round-above, innermost-past, innermost-first, innermost-end, round_inside, not_round_after}
 use Rattle.code_laws.specs.Orbits.{same_number}
 
 -- the number of the innermost pair round a gap
 abbrev pub number_round : List Bool → ℕ → Option ℕ
 number_round bits gap = option_map (rank true bits) (innermost bits gap)
 
-pub record IsGreatest (p : ℕ → Bool) (n x : ℕ) : Type 0 where
-  pub within : x < n
-  pub passes : p x ≡ true
-  pub after : (y : ℕ) → x < y → y < n → p y ≡ false
-
-same_some : (x y : ℕ) → Some x ≡ Some y → x ≡ y
-same_some x y e = cc
-
-pub greatest-find : (p : ℕ → Bool) (n x : ℕ) → find p (falling n) ≡ Some x → IsGreatest p n x
-unfolding falling
-greatest-find p zero x h = cc
-greatest-find p (suc n) x h =
-    elim (cases_Bool (p n)) [
-      | inl w ↦
-          let e : n ≡ x = same_some n x (rw w at h) in
-          record { within = omega (arith, e); passes = subst (λ y. p y ≡ true) e w; after = λ y l m. absurd (omega (arith, e)) }
-      | inr f ↦
-          let more = greatest-find p n x (rw f at h) in
-          record {
-            within = omega (arith, more.within);
-            passes = more.passes;
-            after = λ y l m. elim (cases_lt y n) [ inl b ↦ more.after y l b | inr g ↦ let e : y ≡ n = omega arith in rw e f ];
-          }
-    ]
-
-pub none_at : (p : ℕ → Bool) (n : ℕ) → find p (falling n) ≡ None → (x : ℕ) → x < n → p x ≡ false
-unfolding falling
-none_at p zero h x l = absurd (omega arith)
-none_at p (suc n) h x l =
-    elim (cases_Bool (p n)) [
-      | inl w ↦ let no_way : ◌≡◌ {A = Option ℕ} (Some n) None = rw w at h in cc
-      | inr f ↦ elim (cases_lt x n) [ inl m ↦ none_at p n (rw f at h) x m | inr m ↦ let e : x ≡ n = omega arith in rw e f ]
-    ]
-
-falling_none : (p : ℕ → Bool) (n : ℕ) → ((x : ℕ) → x < n → p x ≡ false) → find p (falling n) ≡ None
-unfolding falling
-falling_none p zero none = refl
-falling_none p (suc n) none = rw (none n (omega arith)) (falling_none p n (λ x h. none x (omega arith)))
-
 module _ (bits : List Bool) (b : IsBalanced bits) where
   -- where the excess is 0, no pair is round
   pub none_round : (gap : ℕ) → gap ≤ length bits → excess bits gap ≡ pos 0 → number_round bits gap ≡ None
   unfolding innermost
   none_round gap within flat =
-      ap (option_map (rank true bits)) (falling_none (is_round bits gap) gap (λ x h. false_from_ne_true _ (λ r.
+      ap (option_map (rank true bits)) (find-no_falling (is_round bits gap) gap (λ x h. false_from_ne_true _ (λ r.
       let a = round-above bits gap x (omega arith) r in
       let v = a.above gap h (omega arith) in
       let low = b.low x (omega arith) in
@@ -78,21 +40,18 @@ module _ (bits : List Bool) (b : IsBalanced bits) where
   apart_some i x l h None e = refl
   apart_some i x l h (Some y) e =
       let g = greatest-find (is_round bits i) i y e in
-      let less = fewer y i g.within (omega arith) (open_of_round i y g.passes) in
+      let less = fewer y i g.below (omega arith) (open_of_round i y g.passes) in
       let more = rank-le-rank true bits i x l in
       ne_eqb _ _ (λ s. omega (arith, s, less, more))
 
   module _ (i j : ℕ) (arc : IsArc bits i j) where
-    pub arc_opens : is_open bits i ≡ true
-    arc_opens = open_where_up bits i (omega (arith, arc.order, arc.within)) (arc.above (i + 1) (omega arith) (omega (arith, arc.order)))
-
     inside_at : (gap : ℕ) → i < gap → gap ≤ j → (o : Option ℕ) → innermost bits gap ≡ o → same_number (number_round bits i) (option_map (rank true bits) o) ≡ false
     unfolding innermost
-    inside_at gap l h None e = absurd (both_ways _ (none_at (is_round bits gap) gap e i l) (round_inside bits i j b arc gap l h))
+    inside_at gap l h None e = absurd (both_ways _ (no_falling-find (is_round bits gap) gap e i l) (round_inside bits i j b arc gap l h))
     inside_at gap l h (Some x) e =
         let g = greatest-find (is_round bits gap) gap x e in
         let le : i ≤ x = elim (cases_lt x i) [ inl m ↦ absurd (both_ways _ (g.after i m l) (round_inside bits i j b arc gap l h)) | inr m ↦ m ] in
-        apart_some i x le (omega (arith, g.within, arc.within)) (innermost bits i) refl
+        apart_some i x le (omega (arith, g.below, arc.within)) (innermost bits i) refl
 
     -- inside an arc the number is not the one before it
     pub apart_inside : (gap : ℕ) → i < gap → gap ≤ j → same_number (number_round bits i) (number_round bits gap) ≡ false
@@ -108,7 +67,7 @@ module _ (bits : List Bool) (b : IsBalanced bits) where
         elim (cases_lt y i) [
           | inl m ↦ let v = fewer y i m (omega (arith, arc.order, arc.within)) opens in omega (arith, s, v)
           | inr m ↦ elim (cases_lt i y) [
-            | inl n ↦ let v = fewer i y n (omega (arith, g.within)) arc_opens in omega (arith, s, v)
+            | inl n ↦ let v = fewer i y n (omega (arith, g.below)) (arc-opens bits i j arc) in omega (arith, s, v)
             | inr n ↦ let e : i ≡ y = omega arith in both_ways _ (subst (λ z. is_round bits gap z ≡ false) e out) g.passes
           ]
         ])
@@ -122,7 +81,7 @@ module _ (bits : List Bool) (b : IsBalanced bits) where
     before_at gap l None e = refl
     before_at gap l (Some y) e =
         let g = greatest-find (is_round bits gap) gap y e in
-        let v = fewer y i (omega (arith, g.within)) (omega (arith, arc.order, arc.within)) (open_of_round gap y g.passes) in
+        let v = fewer y i (omega (arith, g.below)) (omega (arith, arc.order, arc.within)) (open_of_round gap y g.passes) in
         ne_eqb _ _ (λ s. omega (arith, s, v))
 
     pub apart_before : (gap : ℕ) → gap ≤ i → same_number (Some (rank true bits i)) (number_round bits gap) ≡ false

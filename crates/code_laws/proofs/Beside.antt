@@ -1,16 +1,15 @@
 -- A step stays in the component and keeps the number.
-use Rattle.std.specs.Prelude.{not, find, filter}
-use Rattle.std.proofs.Common.{◌≡◌, ◌≢◌, ℕ, zero, suc, ◌+◌, ◌-◌, ◌<◌, ◌≤◌, ◌⊎◌, inl, inr, Bool, true, false, ◌&&◌, List, [], ◌∷◌, length, refl, ap, sym, ◌∙◌, arith, subst, Option, Some, None, ◌==◌, IsTrue}
+use Rattle.std.specs.Prelude.{find}
+use Rattle.std.proofs.Common.{◌≡◌, ℕ, ◌+◌, ◌<◌, inl, inr, Bool, true, false, ◌&&◌, length, refl, sym, ◌∙◌, arith, subst, Option, Some, None, ◌==◌}
 use Rattle.std.specs.List.{range_with_len}
 use Rattle.std.proofs.lemmas.Bool.{and_parts, and_from, eqb-true, eq-eqb, both_ways}
 use Rattle.bit_words.proofs.Finds.{IsLeast, least-find, none-find}
 use Rattle.code_laws.specs.Code.{Code, step, component_of, next, turn}
 use Rattle.code_laws.specs.Numbers.{node_of, ring_of, node_or_root, shell_or_outer, pair_round}
-use Rattle.code_laws.specs.SeqFault.{is_sound}
 use Rattle.code_laws.specs.Orbits.{same_number, is_beside}
-use Rattle.code_laws.proofs.Walks.{IsAfter, IsLastOne, Goes}
-use Rattle.code_laws.proofs.Steps.{IsWell, IsIn, same_number-self, same_number-true, goes}
-use Rattle.code_laws.proofs.Sound.{SoundParts, sound_parts, is_well}
+use Rattle.code_laws.proofs.Walks.{Goes}
+use Rattle.code_laws.proofs.Steps.{same_number-self, same_number-true, goes}
+use Rattle.code_laws.proofs.Sound.{SoundParts, is_well}
 
 -- two positions with one component and one number of a kind
 pub record AreBeside (c : Code) (kind : Bool) (p q : ℕ) : Type 0 where

@@ -1,18 +1,18 @@
 -- What a closing place closes.
-use Rattle.std.specs.Prelude.{ℤ, pos, ◌+ℤ◌, ◌-ℤ◌, ◌<ℤ◌, ◌≤ℤ◌, find, nat_le}
-use Rattle.std.proofs.Common.{◌≡◌, ◌≢◌, ℕ, zero, suc, ◌+◌, ◌-◌, ◌<◌, ◌≤◌, ◌⊎◌, inl, inr, Bool, true, false, ◌&&◌, List, [], ◌∷◌, length, get_or, refl, ap, sym, ◌∙◌, arith, subst, Option, Some, None, ◌==◌}
+use Rattle.std.specs.Prelude.{pos, ◌+ℤ◌, ◌<ℤ◌, ◌≤ℤ◌, find, nat_le}
+use Rattle.std.proofs.Common.{◌≡◌, ℕ, ◌+◌, ◌<◌, ◌≤◌, inl, inr, Bool, true, false, ◌&&◌, List, length, refl, ap, sym, arith, subst, Option, Some, None}
 use Rattle.std.specs.List.{range_with_len}
-use Rattle.std.proofs.lemmas.Bool.{cases_lt, cases_Bool, and_parts, and_from, eqb-true, eq-eqb, leb-true, le-leb, leb-false, both_ways}
+use Rattle.std.proofs.lemmas.Bool.{cases_lt, and_parts, and_from, eqb-true, eq-eqb, leb-true, leb-false, both_ways}
 use Rattle.std.proofs.lemmas.Int.{ints}
 use Rattle.bit_words.specs.Lists.{is_at}
 use Rattle.bit_words.specs.Bits.{rank, excess}
-use Rattle.bit_words.proofs.Ranks.{rank-zero, excess_down}
+use Rattle.bit_words.proofs.Ranks.{excess_down}
 use Rattle.bit_words.proofs.Finds.{least-find, none-find}
 use Rattle.min_max_tree.proofs.Falls.{excess-step-up}
 use Rattle.parens.proofs.Balances.{IsBalanced}
 use Rattle.parens.specs.Matching.{is_open, close_of, open_of, falling}
 use Rattle.parens.proofs.Arcs.{IsArc, arc-close, close-arc, open_where_up, excess-zero}
-use Rattle.code_laws.proofs.Apart.{IsGreatest, greatest-find, none_at}
+use Rattle.parens.proofs.Greatest.{IsGreatest, greatest-find, no_falling-find}
 
 -- the excess before i is at most that after j
 no_more : List Bool → ℕ → ℕ → Bool
@@ -39,10 +39,10 @@ module _ (bits : List Bool) (b : IsBalanced bits) (j : ℕ) (within : j < length
       let above : (q : ℕ) → x < q → q ≤ j → excess bits (j + 1) <ℤ excess bits q
       = λ q l h. elim (cases_lt q j) [ inl m ↦ no_more-false bits j q (g.after q l m) | inr m ↦ let e : q ≡ j = omega arith in let f = fell in subst (λ y. excess bits (j + 1) <ℤ excess bits y) (sym e) (omega (arith, ints, f)) ] in
       let low = no_more-true bits j x g.passes in
-      let up = above (x + 1) (omega arith) (omega (arith, g.within)) in
-      let step = excess-step-up bits x (omega (arith, g.within)) in
+      let up = above (x + 1) (omega arith) (omega (arith, g.below)) in
+      let step = excess-step-up bits x (omega (arith, g.below)) in
       let level : excess bits (j + 1) ≡ excess bits x = omega (arith, ints, low, up, step) in
-      record { order = g.within; within = within; level = level; above = λ q l h. let v = above q l h in omega (arith, ints, v, level) }
+      record { order = g.below; within = within; level = level; above = λ q l h. let v = above q l h in omega (arith, ints, v, level) }
 
   some_arc : (x : ℕ) × IsArc bits x j
   some_arc = at (find (no_more bits j) (falling j)) refl
@@ -53,7 +53,7 @@ module _ (bits : List Bool) (b : IsBalanced bits) (j : ℕ) (within : j < length
           let low = b.low (j + 1) (omega arith) in
           let z = excess-zero bits in
           elim (cases_lt 0 j) [
-            | inl l ↦ let v = no_more-false bits j 0 (none_at (no_more bits j) j e 0 l) in absurd (omega (arith, ints, v, low, z))
+            | inl l ↦ let v = no_more-false bits j 0 (no_falling-find (no_more bits j) j e 0 l) in absurd (omega (arith, ints, v, low, z))
             | inr g ↦ let e : j ≡ 0 = omega arith in let y : excess bits j ≡ excess bits 0 = ap (excess bits) e in absurd (omega (arith, ints, f, low, z, y))
           ]
       at (Some x) e = (x, arc_from x (greatest-find (no_more bits j) j x e))

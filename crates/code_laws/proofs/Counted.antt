@@ -1,29 +1,29 @@
 -- A component with so many edges of a kind has one number of that kind more.
-use Rattle.std.specs.Prelude.{ℤ, pos, not, find, filter, ◌&&◌}
+use Rattle.std.specs.Prelude.{pos, not, find, filter, ◌&&◌}
 use Rattle.std.specs.List.{range_with_len}
-use Rattle.std.proofs.Common.{◌≡◌, ◌≢◌, ℕ, zero, suc, ◌+◌, ◌-◌, ◌*◌, ◌/◌, ◌<◌, ◌≤◌, ◌⊎◌, inl, inr, Bool, true, false, List, [], ◌∷◌, length, refl, ap, sym, ◌∙◌, arith, subst, Option, Some, None, ◌==◌, IsTrue, add-one}
-use Rattle.std.proofs.lemmas.Bool.{cases_lt, cases_Bool, cases_eq, and_parts, and_from, and_left, both_ways, eqb-true, eq-eqb, ne_eqb, false_from_ne_true}
+use Rattle.std.proofs.Common.{◌≡◌, ℕ, zero, suc, ◌+◌, ◌-◌, ◌*◌, ◌<◌, ◌≤◌, inl, inr, Bool, true, false, ◌∷◌, length, refl, ap, sym, ◌∙◌, arith, subst, Option, Some, None, ◌==◌}
+use Rattle.std.proofs.lemmas.Bool.{cases_Bool, and_left, both_ways, eqb-true, eq-eqb, ne_eqb, false_from_ne_true}
 use Rattle.std.proofs.lemmas.Int.{ints}
 use Rattle.bit_words.specs.Lists.{is_at}
 use Rattle.bit_words.specs.Bits.{rank, excess, same}
 use Rattle.bit_words.proofs.Ranks.{rank_both, rank_more_yes, rank_more_no}
-use Rattle.bit_words.proofs.Finds.{IsLeast, find-least, least-find}
+use Rattle.bit_words.proofs.Finds.{find-least, least-find}
 use Rattle.parens.specs.Matching.{is_open}
-use Rattle.parens.proofs.Arcs.{IsArc}
-use Rattle.code_laws.specs.Code.{Code, positions, is_tree, is_first, parens, place, mate, component_of, component_count, start_of, end_of}
-use Rattle.code_laws.specs.Numbers.{node_of, ring_of, pair_round, is_ring, is_shell, is_outer}
+use Rattle.parens.proofs.Arcs.{IsArc, arc-opens, arc-closes}
+use Rattle.code_laws.specs.Code.{Code, positions, is_tree, is_first, parens, place, component_of, component_count, start_of, end_of}
+use Rattle.code_laws.specs.Numbers.{node_of, ring_of, pair_round, is_ring}
 use Rattle.code_laws.specs.Counts.{positions_in, begins_node, begins_ring, nodes_in, rings_in, edges_in, edges_of_kind}
-use Rattle.code_laws.specs.Orbits.{is_beside, same_number}
+use Rattle.code_laws.specs.Orbits.{is_beside}
 use Rattle.code_laws.specs.declared.ring_number.RingNumber.{RingNumber}
 use Rattle.code_laws.specs.declared.ring_number.RingNumber.TheVariants.{Outer, Shell}
-use Rattle.code_laws.proofs.Apart.{number_past, arc_opens}
-use Rattle.code_laws.proofs.Places.{IsMate, cases_kind, same-self, same-other, place_next, place_other, place_before}
+use Rattle.code_laws.proofs.Apart.{number_past}
+use Rattle.code_laws.proofs.Places.{cases_kind, same-self, same-other, place_next, place_other, place_before}
 use Rattle.code_laws.proofs.Steps.{IsIn, HasMate, Opens, Closes, pair-number, at_place}
 use Rattle.code_laws.proofs.Sound.{SoundParts, whole, flat, rises, in_one, is_component, mates, start_within, places_within}
-use Rattle.code_laws.proofs.Mates.{first_at, arc_closes}
+use Rattle.code_laws.proofs.Mates.{first_at}
 use Rattle.code_laws.proofs.Edges.{place_in}
 use Rattle.code_laws.proofs.Firsts.{first_gap}
-use Rattle.code_laws.proofs.Beside.{AreBeside, beside-from, beside-to, beside-self}
+use Rattle.code_laws.proofs.Beside.{beside-from, beside-to, beside-self}
 use Rattle.code_laws.proofs.Numbered.{ring-beside, beside-ring, node-beside, beside-node}
 
 -- no position before p is beside p
@@ -85,9 +85,9 @@ module _ (c : Code) (s : SoundParts c) (kind : Bool) where
       ∙ sym opens
     where
       opened : (p j : ℕ) → IsArc (parens c kind) (place c kind p) j → is_open (parens c kind) (place c kind p) ≡ true
-      opened p j arc = arc_opens (parens c kind) (whole c s kind) (place c kind p) j arc
+      opened p j arc = arc-opens (parens c kind) (place c kind p) j arc
   after_pair p m i inside is (Closes q n arc k order from) =
-      let closes = arc_closes (parens c kind) n (place c kind p) arc in
+      let closes = arc-closes (parens c kind) n (place c kind p) arc in
       let next = place_next c kind p (omega (arith, i.to, i.within)) is in
       let past : pair_round c kind (p + 1) ≡ pair_round c kind q =
       at_place c kind (p + 1) (place c kind p + 1) next
@@ -117,7 +117,7 @@ module _ (c : Code) (s : SoundParts c) (kind : Bool) where
     where
       at : (p m : ℕ) → IsIn c p m → p + 1 ≡ end_of c m → HasMate c kind p m → is_open (parens c kind) (place c kind p) ≡ false
       at p m i e (Opens q j arc k order to) = absurd (omega (arith, order, to, e))
-      at p m i e (Closes q n arc k order from) = arc_closes (parens c kind) n (place c kind p) arc
+      at p m i e (Closes q n arc k order from) = arc-closes (parens c kind) n (place c kind p) arc
 
   -- the positions that open an edge, by the ranks of their places
   opened : (low d : ℕ) → low + d ≤ length c.a → rank true (parens c kind) (place c kind low) + length (filter (opens_at c kind) (range_with_len low d)) ≡ rank true (parens c kind) (place c kind (low + d))

@@ -1,22 +1,22 @@
 -- The first position of each edge.
-use Rattle.std.specs.Prelude.{ℤ, pos, not, find, if◌then◌else◌}
-use Rattle.std.proofs.Common.{◌≡◌, ◌≢◌, ℕ, zero, suc, ◌+◌, ◌-◌, ◌*◌, ◌/◌, ◌<◌, ◌≤◌, ◌⊎◌, inl, inr, Bool, true, false, List, [], ◌∷◌, length, get_or, refl, ap, sym, ◌∙◌, arith, subst, Option, Some, None, ◌==◌, add-one, IsTrue}
-use Rattle.std.proofs.lemmas.Bool.{cases_lt, cases_Bool, cases_order, both_ways, eqb-true, eq-eqb, ne_eqb, false_from_ne_true}
+use Rattle.std.specs.Prelude.{not}
+use Rattle.std.proofs.Common.{◌≡◌, ℕ, ◌+◌, ◌-◌, ◌*◌, ◌/◌, ◌<◌, ◌≤◌, ◌⊎◌, inl, inr, Bool, true, false, List, length, refl, ap, sym, ◌∙◌, arith, Some, ◌==◌, IsTrue}
+use Rattle.std.proofs.lemmas.Bool.{cases_lt, cases_Bool, cases_order, both_ways, eqb-true, eq-eqb, false_from_ne_true}
 use Rattle.std.proofs.lemmas.Int.{ints}
 use Rattle.bit_words.specs.Bits.{rank, excess}
 use Rattle.bit_words.proofs.Ranks.{rank_both}
-use Rattle.bit_words.proofs.Finds.{IsLeast, find-least}
+use Rattle.bit_words.proofs.Finds.{find-least}
 use Rattle.parens.proofs.Balances.{IsBalanced}
 use Rattle.parens.specs.Matching.{is_open, pair_number}
-use Rattle.parens.proofs.Arcs.{IsArc}
-use Rattle.code_laws.specs.Code.{Code, is_tree, is_first, parens, place, mate, start_of, end_of}
+use Rattle.parens.proofs.Arcs.{IsArc, arc-opens}
+use Rattle.code_laws.specs.Code.{Code, is_tree, is_first, parens, place, mate}
 use Rattle.code_laws.specs.Numbers.{edge_of, tree_edges, first_of_edge}
 use Rattle.code_laws.specs.SeqFault.{is_sound}
-use Rattle.code_laws.proofs.Apart.{fewer, arc_opens}
-use Rattle.code_laws.proofs.Places.{IsMate, IsPlaced, place_next, select-placed}
+use Rattle.code_laws.proofs.Apart.{fewer}
+use Rattle.code_laws.proofs.Places.{place_next, select-placed}
 use Rattle.code_laws.proofs.Steps.{IsIn, HasMate, Opens, Closes}
 use Rattle.code_laws.proofs.Sound.{SoundParts, sound_parts, all_places, whole, places_within, mates, in_one}
-use Rattle.code_laws.proofs.Mates.{one_place, first_at, laws_at, mate_laws}
+use Rattle.code_laws.proofs.Mates.{one_place, first_at, laws_at}
 use Rattle.code_laws.specs.Laws.{MateLaws}
 
 abbrev pub before_kind : Code → Bool → ℕ
@@ -93,7 +93,7 @@ module _ (c : Code) (s : SoundParts c) where
   second_at kind y m i is f (Opens q j arc k order inside) = absurd (both_ways _ (sym (first_at c kind y (place c kind y) is refl) ∙ f) (opens_at (parens c kind) kind y j arc))
     where
       opens_at : (bits : List Bool) (kind : Bool) (y j : ℕ) → IsArc (parens c kind) (place c kind y) j → is_open (parens c kind) (place c kind y) ≡ true
-      opens_at bits kind y j arc = arc_opens (parens c kind) (whole c s kind) (place c kind y) j arc
+      opens_at bits kind y j arc = arc-opens (parens c kind) (place c kind y) j arc
   second_at kind y m i is f (Closes q n arc k order from) = rw k.is_mate order
 
   pub second : (y : ℕ) → y < length c.a → is_first c y ≡ false → mate c y < y

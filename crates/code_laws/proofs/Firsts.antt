@@ -1,23 +1,18 @@
 -- The first positions of nodes and of shells.
-use Rattle.std.specs.Prelude.{ℤ, pos, not, find, slice_index}
-use Rattle.std.proofs.Common.{◌≡◌, ◌≢◌, ℕ, zero, suc, ◌+◌, ◌-◌, ◌*◌, ◌/◌, ◌<◌, ◌≤◌, ◌⊎◌, inl, inr, Bool, true, false, List, [], ◌∷◌, length, refl, ap, sym, ◌∙◌, arith, subst, Option, Some, None, ◌==◌, add-one, IsTrue}
-use Rattle.std.proofs.lemmas.Bool.{cases_lt, cases_Bool, both_ways, eqb-true, eqb-false, eq-eqb, ne_eqb, false_from_ne_true}
+use Rattle.std.proofs.Common.{◌≡◌, ◌≢◌, ℕ, ◌+◌, ◌*◌, ◌/◌, ◌<◌, ◌≤◌, inl, inr, Bool, true, false, length, refl, ap, sym, ◌∙◌, arith, subst, Option, Some, None, ◌==◌}
+use Rattle.std.proofs.lemmas.Bool.{cases_Bool, both_ways, eqb-true, eq-eqb, ne_eqb, false_from_ne_true}
 use Rattle.bit_words.specs.Bits.{rank}
-use Rattle.bit_words.proofs.Finds.{IsLeast, find-least}
+use Rattle.bit_words.proofs.Finds.{find-least}
 use Rattle.parens.specs.Matching.{is_open}
-use Rattle.parens.proofs.Arcs.{IsArc}
-use Rattle.code_laws.specs.Code.{Code, is_tree, is_first, parens, place, mate, component_of, component_count, start_of, end_of}
+use Rattle.parens.proofs.Arcs.{arc-closes}
+use Rattle.code_laws.specs.Code.{Code, is_tree, is_first, parens, place, component_count, start_of, end_of}
 use Rattle.code_laws.specs.Numbers.{edge_of, node_of, ring_of, node_or_root, shell_or_outer, is_shell, pair_round, tree_edges, first_of_edge, first_of_node, first_of_shell}
-use Rattle.code_laws.specs.SeqFault.{is_sound}
 use Rattle.code_laws.specs.Orbits.{same_number}
-use Rattle.code_laws.specs.declared.ring_number.RingNumber.{RingNumber}
-use Rattle.code_laws.specs.declared.ring_number.RingNumber.TheVariants.{Outer, Shell}
-use Rattle.code_laws.proofs.Apart.{number_round, apart_before, number_first, arc_opens}
-use Rattle.code_laws.proofs.Places.{IsMate, place_before, place_next}
+use Rattle.code_laws.proofs.Apart.{apart_before, number_first}
+use Rattle.code_laws.proofs.Places.{place_before, place_next}
 use Rattle.code_laws.proofs.Steps.{IsIn, HasMate, Opens, Closes, pair-number, none_at, at_place, same_number-self}
-use Rattle.code_laws.proofs.Sound.{SoundParts, sound_parts, is_well, rises, whole, flat, mates, in_one, is_component, start_within, rises_to}
-use Rattle.code_laws.proofs.Mates.{first_at, arc_closes}
-use Rattle.code_laws.proofs.Edges.{first_edge, edge_there, edge_of_kind, before_kind, tree_below, other_from, open_place}
+use Rattle.code_laws.proofs.Sound.{SoundParts, is_well, rises, whole, flat, mates, in_one, is_component, start_within, rises_to}
+use Rattle.code_laws.proofs.Edges.{first_edge, edge_there, edge_of_kind, tree_below, other_from, open_place}
 
 node_at : (c : Code) (p : ℕ) (o : Option ℕ) → pair_round c true p ≡ o → node_of c p ≡ node_or_root c p o
 unfolding node_of
@@ -68,7 +63,7 @@ module _ (c : Code) (s : SoundParts c) where
             let x : same_number (Some n) (pair_round c kind y) ≡ false = rw (pair-number c kind y) a in
             both_ways _ x (rw e (same_number-self (Some n))),
       )
-  first_gap kind p m i is (Closes q n arc k order from) opens = absurd (both_ways _ (arc_closes (parens c kind) n (place c kind p) arc) opens)
+  first_gap kind p m i is (Closes q n arc k order from) opens = absurd (both_ways _ (arc-closes (parens c kind) n (place c kind p) arc) opens)
 
   -- the first position of an edge is its first
   pub first_is : (e p : ℕ) → 2 * e < length c.a → first_of_edge c e ≡ Some p → (p < length c.a) × (is_first c p ≡ true) × (edge_of c p ≡ e)

@@ -14,3 +14,4 @@ pub mod Numbered
 pub mod Counted
 pub mod Selects
 pub mod Stacks
+pub mod Walked

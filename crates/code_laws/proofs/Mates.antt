@@ -1,30 +1,18 @@
 -- What holds of the mate of each position of a sound code.
-use Rattle.std.specs.Prelude.{ℤ, pos, ◌+ℤ◌, ◌-ℤ◌, ◌<ℤ◌, ◌≤ℤ◌, not, if◌then◌else◌}
-use Rattle.std.proofs.Common.{◌≡◌, ◌≢◌, ℕ, zero, suc, ◌+◌, ◌-◌, ◌<◌, ◌≤◌, ◌⊎◌, inl, inr, Bool, true, false, List, [], ◌∷◌, length, get_or, refl, ap, sym, ◌∙◌, arith, subst, Option, Some, None, add-one, IsTrue}
-use Rattle.std.proofs.lemmas.Bool.{cases_lt, cases_Bool, cases_order, both_ways}
+use Rattle.std.specs.Prelude.{not}
+use Rattle.std.proofs.Common.{◌≡◌, ℕ, ◌+◌, ◌<◌, ◌≤◌, inl, inr, Bool, true, false, List, length, refl, ap, sym, ◌∙◌, arith, subst, IsTrue}
+use Rattle.std.proofs.lemmas.Bool.{cases_order, both_ways}
 use Rattle.std.proofs.lemmas.Int.{ints}
-use Rattle.bit_words.specs.Bits.{rank, excess}
-use Rattle.bit_words.proofs.Ranks.{excess_up}
-use Rattle.parens.proofs.Balances.{IsBalanced}
-use Rattle.parens.specs.Matching.{is_open, close_of, open_of, mate_of, pair_number}
-use Rattle.parens.proofs.Arcs.{IsArc, arc-close, close-arc}
-use Rattle.code_laws.specs.Code.{Code, is_tree, is_first, parens, place, mate, component_of, component_count, start_of, end_of}
+use Rattle.parens.specs.Matching.{is_open, mate_of, pair_number}
+use Rattle.parens.proofs.Arcs.{IsArc, arc-opens, arc-closes}
+use Rattle.code_laws.specs.Code.{Code, is_tree, is_first, parens, place, mate, start_of, end_of}
 use Rattle.code_laws.specs.Numbers.{edge_of, tree_edges}
 use Rattle.code_laws.specs.SeqFault.{is_sound}
-use Rattle.code_laws.proofs.Apart.{arc_opens}
-use Rattle.code_laws.proofs.Places.{IsMate, place_before, place_next, place_after}
+use Rattle.code_laws.proofs.Places.{place_after}
 use Rattle.code_laws.proofs.Closers.{some_open}
-use Rattle.code_laws.proofs.Steps.{IsIn, HasMate, Opens, Closes, IsWell}
-use Rattle.code_laws.proofs.Sound.{SoundParts, sound_parts, whole, places_within, mates, in_one, is_component, mate_is, mate_back}
+use Rattle.code_laws.proofs.Steps.{IsIn, HasMate, Opens, Closes}
+use Rattle.code_laws.proofs.Sound.{SoundParts, sound_parts, whole, mates, in_one, is_component, mate_back}
 use Rattle.code_laws.specs.Laws.{MateLaws}
-
--- the end of an arc closes
-pub arc_closes : (bits : List Bool) (i j : ℕ) → IsArc bits i j → is_open bits j ≡ false
-arc_closes bits i j a =
-    elim (cases_Bool (is_open bits j)) [
-      | inl o ↦ let up = excess_up bits j false a.within o in let v = a.above j a.order (omega arith) in let e = a.level in absurd (omega (arith, ints, up, v, e))
-      | inr c ↦ c
-    ]
 
 -- two arcs with one end are the same
 arc_one : (bits : List Bool) (i x j : ℕ) → IsArc bits i j → IsArc bits x j → i ≡ x
@@ -72,15 +60,15 @@ module _ (c : Code) (s : SoundParts c) where
   -- the opening place of an arc, found from both ends, is the number of its pair
   arc_back : (kind : Bool) (i j : ℕ) → IsArc (parens c kind) i j → mate_of (parens c kind) j ≡ i
   arc_back kind i j a =
-      let closes = arc_closes (parens c kind) i j a in
+      let closes = arc-closes (parens c kind) i j a in
       let o = some_open (parens c kind) (whole c s kind) j a.within closes in
       mate_back c s kind j o.0 closes o.1 ∙ sym (arc_one (parens c kind) i o.0 j a o.2)
 
   one_pair : (kind : Bool) (i j : ℕ) → IsArc (parens c kind) i j → pair_number (parens c kind) i ≡ pair_number (parens c kind) j
   unfolding pair_number
   one_pair kind i j a =
-      let opens = arc_opens (parens c kind) (whole c s kind) i j a in
-      let closes = arc_closes (parens c kind) i j a in
+      let opens = arc-opens (parens c kind) i j a in
+      let closes = arc-closes (parens c kind) i j a in
       let back = arc_back kind i j a in
       rw opens (rw closes (rw back refl))
 
@@ -89,8 +77,8 @@ module _ (c : Code) (s : SoundParts c) where
       let p_in : p < length c.a = omega (arith, i.to, i.within) in
       let q_from : start_of c m ≤ q = omega (arith, i.from, order) in
       let iq : IsIn c q m = record { count = i.count; from = q_from; to = inside; within = i.within; is = is_component c s q m i.count q_from inside } in
-      let opens = arc_opens (parens c kind) (whole c s kind) (place c kind p) j arc in
-      let closes = arc_closes (parens c kind) (place c kind p) j arc in
+      let opens = arc-opens (parens c kind) (place c kind p) j arc in
+      let closes = arc-closes (parens c kind) (place c kind p) j arc in
       let back : mate c q ≡ p = back_at kind p q m iq k.is_kind p_in is (place c kind p) refl (subst (λ x. IsArc (parens c kind) (place c kind p) x) (sym k.at_place) arc) (mates c s kind q m iq k.is_kind) in
       record {
         within = rw k.is_mate k.within;
@@ -104,15 +92,15 @@ module _ (c : Code) (s : SoundParts c) where
     where
       back_at : (kind : Bool) (p q m : ℕ) → IsIn c q m → is_tree c q ≡ kind → p < length c.a → is_tree c p ≡ kind → (x : ℕ) → place c kind p ≡ x → IsArc (parens c kind) x (place c kind q) → HasMate c kind q m → mate c q ≡ p
       back_at kind p q m iq is l at x e arc (Opens r j a k o n) =
-          absurd (both_ways _ (arc_closes (parens c kind) x (place c kind q) arc) (arc_opens (parens c kind) (whole c s kind) (place c kind q) j a))
+          absurd (both_ways _ (arc-closes (parens c kind) x (place c kind q) arc) (arc-opens (parens c kind) (place c kind q) j a))
       back_at kind p q m iq is l at x e arc (Closes r i a k o n) =
           k.is_mate ∙ one_place c kind r p k.within l k.is_kind at (k.at_place ∙ sym (arc_one (parens c kind) x i (place c kind q) arc a) ∙ sym e)
   laws_at kind p m i is (Closes q n arc k order from) =
       let p_in : p < length c.a = omega (arith, i.to, i.within) in
       let q_to : q < end_of c m = omega (arith, i.to, order) in
       let iq : IsIn c q m = record { count = i.count; from = from; to = q_to; within = i.within; is = is_component c s q m i.count from q_to } in
-      let opens = arc_opens (parens c kind) (whole c s kind) n (place c kind p) arc in
-      let closes = arc_closes (parens c kind) n (place c kind p) arc in
+      let opens = arc-opens (parens c kind) n (place c kind p) arc in
+      let closes = arc-closes (parens c kind) n (place c kind p) arc in
       let back : mate c q ≡ p = back_at kind p q m iq k.is_kind p_in is (place c kind p) refl (subst (λ x. IsArc (parens c kind) x (place c kind p)) (sym k.at_place) arc) (mates c s kind q m iq k.is_kind) in
       record {
         within = rw k.is_mate k.within;
@@ -128,7 +116,7 @@ module _ (c : Code) (s : SoundParts c) where
       back_at kind p q m iq is l at x e arc (Opens r j a k o n) =
           k.is_mate ∙ one_place c kind r p k.within l k.is_kind at (k.at_place ∙ sym (arc_end (parens c kind) (place c kind q) x j arc a) ∙ sym e)
       back_at kind p q m iq is l at x e arc (Closes r i a k o n) =
-          absurd (both_ways _ (arc_closes (parens c kind) i (place c kind q) a) (arc_opens (parens c kind) (whole c s kind) (place c kind q) x arc))
+          absurd (both_ways _ (arc-closes (parens c kind) i (place c kind q) a) (arc-opens (parens c kind) (place c kind q) x arc))
 
 pub mate_laws : (c : Code) → IsTrue (is_sound c) → (p : ℕ) → p < length c.a → MateLaws c p
 mate_laws c h p l = let s = sound_parts c h in let i = in_one c s p l in laws_at c s (is_tree c p) p i.0 i.1 refl (mates c s (is_tree c p) p i.0 i.1 refl)

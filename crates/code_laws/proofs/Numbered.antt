@@ -1,22 +1,21 @@
 -- What stands round a gap: a pair of the same component. Two positions have one number exactly where they are beside each other.
-use Rattle.std.specs.Prelude.{ℤ, pos, not, find, option_map, filter, Contains, ◌++◌, ◌↔◌}
+use Rattle.std.specs.Prelude.{option_map, filter, Contains, ◌++◌}
 use Rattle.std.specs.List.{range_with_len}
-use Rattle.std.proofs.Common.{◌≡◌, ◌≢◌, ℕ, zero, suc, ◌+◌, ◌-◌, ◌<◌, ◌≤◌, ◌⊎◌, inl, inr, Bool, true, false, List, [], ◌∷◌, length, get_or, refl, ap, sym, ◌∙◌, arith, subst, Option, Some, None, ◌==◌, IsTrue}
-use Rattle.std.proofs.lemmas.Bool.{cases_lt, cases_Bool, cases_order, and_parts, both_ways, eqb-true, eq-eqb, leb-true}
+use Rattle.std.proofs.Common.{◌≡◌, ℕ, zero, suc, ◌+◌, ◌-◌, ◌<◌, ◌≤◌, inl, inr, Bool, true, false, List, [], ◌∷◌, length, refl, ap, sym, ◌∙◌, arith, subst, Option, Some, None}
+use Rattle.std.proofs.lemmas.Bool.{cases_lt, cases_Bool, cases_order, and_parts, both_ways, leb-true}
 use Rattle.bit_words.specs.Bits.{rank}
 use Rattle.parens.specs.Matching.{is_open, close_of, is_from, is_round, innermost}
-use Rattle.parens.proofs.Arcs.{IsArc, arc-close, close-arc}
-use Rattle.parens.proofs.Rounds.{round-above}
-use Rattle.code_laws.specs.Code.{Code, is_tree, is_first, parens, place, mate, component_of, component_count, start_of, end_of}
+use Rattle.parens.proofs.Arcs.{IsArc, arc-close, close-arc, arc-opens, arc-closes}
+use Rattle.code_laws.specs.Code.{Code, is_tree, parens, place, mate, component_of, end_of}
 use Rattle.code_laws.specs.Numbers.{node_of, ring_of, node_or_root, shell_or_outer, pair_round}
 use Rattle.code_laws.specs.Orbits.{is_beside, orbit, from_on}
-use Rattle.code_laws.specs.declared.ring_number.RingNumber.{RingNumber}
 use Rattle.code_laws.specs.declared.ring_number.RingNumber.TheVariants.{Outer, Shell}
-use Rattle.code_laws.proofs.Apart.{IsGreatest, greatest-find, fewer, arc_opens}
-use Rattle.code_laws.proofs.Places.{IsPlaced, select-placed, place_before, place_next}
-use Rattle.code_laws.proofs.Steps.{IsIn, HasMate, Opens, Closes, pair-number}
+use Rattle.parens.proofs.Greatest.{greatest-find}
+use Rattle.code_laws.proofs.Apart.{fewer}
+use Rattle.code_laws.proofs.Places.{select-placed, place_before, place_next}
+use Rattle.code_laws.proofs.Steps.{IsIn, HasMate, Opens, Closes}
 use Rattle.code_laws.proofs.Sound.{SoundParts, whole, all_places, places_within, in_one, is_component, mates}
-use Rattle.code_laws.proofs.Mates.{first_at, arc_closes, one_place}
+use Rattle.code_laws.proofs.Mates.{one_place}
 use Rattle.code_laws.proofs.Edges.{place_in}
 use Rattle.code_laws.proofs.Beside.{AreBeside, beside-from, beside-to}
 use Rattle.code_laws.proofs.Turned.{orbit_on}
@@ -43,11 +42,11 @@ module _ (c : Code) (s : SoundParts c) (kind : Bool) where
       let parts = and_parts (is_open bits i) (is_from (place c kind p) (close_of bits i)) g.passes in
       let close = from_some (place c kind p) (close_of bits i) parts.1 in
       let p_place = places_within c s.laid kind p (omega arith) in
-      let i_in : i < length bits = omega (arith, g.within, p_place) in
+      let i_in : i < length bits = omega (arith, g.below, p_place) in
       let arc = arc-close bits i close.0 parts.0 i_in close.1 in
       let all = all_places c s.laid kind in
       let q = select-placed kind c.a i (omega (arith, i_in, all)) in
-      let at : q.0 < p = elim (cases_lt q.0 p) [ inl h ↦ h | inr h ↦ let v = place_before c kind p q.0 h in absurd (omega (arith, v, q.2.rank, g.within)) ] in
+      let at : q.0 < p = elim (cases_lt q.0 p) [ inl h ↦ h | inr h ↦ let v = place_before c kind p q.0 h in absurd (omega (arith, v, q.2.rank, g.below)) ] in
       let iq = in_one c s q.0 q.2.within in
       let same : rank true bits i ≡ x = same_some (rank true bits i) x n in
       let to : p < end_of c iq.0 = mated q.0 iq.0 iq.1 q.2.kind i close.0 q.2.rank arc p close.2 l (mates c s kind q.0 iq.0 iq.1 q.2.kind) in
@@ -79,7 +78,7 @@ module _ (c : Code) (s : SoundParts c) (kind : Bool) where
             | inr h ↦ omega (arith, h, inside)
           ]
       mated q m i is x j e arc p low l (Closes r k a mate order from) =
-          absurd (both_ways _ (arc_closes (parens c kind) k (place c kind q) a) (subst (λ y. is_open (parens c kind) y ≡ true) (sym e) (arc_opens (parens c kind) (whole c s kind) x j arc)))
+          absurd (both_ways _ (arc-closes (parens c kind) k (place c kind q) a) (subst (λ y. is_open (parens c kind) y ≡ true) (sym e) (arc-opens (parens c kind) x j arc)))
 
   pub round_at : (p x : ℕ) → p < length c.a → pair_round c kind p ≡ Some x → (q : ℕ) × IsRoundAt c kind p x q
   unfolding pair_round

@@ -1,14 +1,13 @@
 -- Where positions stand among the parentheses of a kind.
-use Rattle.std.specs.Prelude.{not, find, unwrap_or, slice_index_or, if◌then◌else◌}
-use Rattle.std.proofs.Common.{◌≡◌, ◌≢◌, ℕ, zero, suc, ◌+◌, ◌-◌, ◌<◌, ◌≤◌, ◌⊎◌, inl, inr, Bool, true, false, ◌&&◌, List, [], ◌∷◌, length, get_or, refl, ap, sym, ◌∙◌, arith, subst, Option, Some, None, ◌==◌, add-one}
-use Rattle.std.specs.List.{range_with_len}
-use Rattle.std.proofs.lemmas.Bool.{cases_lt, cases_Bool, and_parts, and_from, eqb-true, eq-eqb, false_from_ne_true, both_ways}
+use Rattle.std.specs.Prelude.{not, unwrap_or, slice_index_or}
+use Rattle.std.proofs.Common.{◌≡◌, ◌≢◌, ℕ, zero, suc, ◌+◌, ◌<◌, ◌≤◌, ◌⊎◌, inl, inr, Bool, true, false, ◌&&◌, List, length, get_or, refl, ap, sym, ◌∙◌, arith, subst, Option, Some, None, ◌==◌, add-one}
+use Rattle.std.proofs.lemmas.Bool.{cases_lt, and_parts, and_from, eqb-true, eq-eqb, both_ways}
 use Rattle.std.proofs.lemmas.List.{get_or_default}
 use Rattle.bit_words.specs.Bits.{rank, select, same}
 use Rattle.bit_words.proofs.Ranks.{rank-zero, rank-le-rank, rank_more_yes, rank_more_no}
-use Rattle.bit_words.proofs.Finds.{IsLeast, least-find, none-find}
+use Rattle.bit_words.proofs.Finds.{least-find, none-find}
 use Rattle.parens.specs.Matching.{mate_of}
-use Rattle.code_laws.specs.Code.{Code, is_tree, parens, place, mate, over, after, step, component_of, start_of, end_of}
+use Rattle.code_laws.specs.Code.{Code, is_tree, parens, place, mate, over}
 
 pub same-self : (bit : Bool) → same bit bit ≡ true
 same-self true = refl

@@ -1,20 +1,18 @@
 -- First positions by the places that open.
-use Rattle.std.specs.Prelude.{ℤ, pos, not, find, option_map, slice_index_or, if◌then◌else◌, nat_lt, MatchOption, ◌&&◌, ◌↔◌, IsNone}
+use Rattle.std.specs.Prelude.{not, slice_index_or, if◌then◌else◌, nat_lt, ◌&&◌, ◌↔◌, IsNone}
 use Rattle.std.specs.Option.{option_and_then}
-use Rattle.std.specs.List.{range_with_len}
-use Rattle.std.proofs.Common.{◌≡◌, ◌≢◌, ℕ, zero, suc, ◌+◌, ◌-◌, ◌*◌, ◌/◌, ◌<◌, ◌≤◌, ◌⊎◌, inl, inr, Bool, true, false, List, [], ◌∷◌, length, get_or, refl, ap, sym, ◌∙◌, arith, subst, Option, Some, None, ◌==◌, IsTrue}
+use Rattle.std.proofs.Common.{◌≡◌, ℕ, ◌+◌, ◌-◌, ◌*◌, ◌/◌, ◌<◌, ◌≤◌, inl, inr, Bool, true, false, List, length, get_or, refl, ap, sym, ◌∙◌, arith, subst, Option, Some, None, ◌==◌}
 use Rattle.std.proofs.lemmas.Bool.{cases_lt, cases_Bool, and_parts, and_from, both_ways, eqb-true, eq-eqb, ne_eqb, lt-ltb, le-ltb, false_from_ne_true}
-use Rattle.std.proofs.lemmas.List.{get_or_default}
 use Rattle.bit_words.specs.Bits.{rank, select, same, IsSelected}
 use Rattle.bit_words.proofs.Ranks.{rank_both, rank-le-rank, rank_more_yes}
-use Rattle.bit_words.proofs.Finds.{IsLeast, find-least, find-none, least-find}
+use Rattle.bit_words.proofs.Finds.{find-least, find-none, least-find}
 use Rattle.parens.specs.Matching.{is_open}
-use Rattle.code_laws.specs.Code.{Code, positions, is_tree, is_first, parens, place, mate, component_of, component_count, start_of}
+use Rattle.code_laws.specs.Code.{Code, is_tree, is_first, parens, place, mate, component_count, start_of}
 use Rattle.code_laws.specs.Numbers.{edge_of, node_of, ring_of, node_or_root, shell_or_outer, is_shell, pair_round, tree_edges, first_of_edge, first_of_node, first_of_shell, opening_position, one_on, edge_count, node_count, shell_count}
-use Rattle.code_laws.proofs.Places.{IsPlaced, select-placed, same-self, same-true}
+use Rattle.code_laws.proofs.Places.{select-placed, same-self, same-true}
 use Rattle.code_laws.proofs.Sound.{SoundParts, whole, all_places, in_one}
 use Rattle.code_laws.proofs.Mates.{first_at}
-use Rattle.code_laws.proofs.Edges.{half, closed, first_edge, before_kind, edge_of_kind, edge_within, tree_below, laws, second}
+use Rattle.code_laws.proofs.Edges.{half, closed, first_edge, before_kind, edge_of_kind, edge_within, laws, second}
 use Rattle.code_laws.proofs.Firsts.{root_first, node_first, shell_first}
 use Rattle.code_laws.proofs.Numbered.{round_below}
 

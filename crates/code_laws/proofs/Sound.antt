@@ -1,21 +1,20 @@
 -- What a sound code has.
-use Rattle.std.specs.Prelude.{ℤ, pos, ◌+ℤ◌, ◌-ℤ◌, ◌<ℤ◌, ◌≤ℤ◌, not, find, filter, option_map, drop, slice_index, if◌then◌else◌, nat_lt, nat_le, is_none, unwrap_or}
-use Rattle.std.proofs.Common.{◌≡◌, ◌≢◌, ℕ, zero, suc, ◌+◌, ◌-◌, ◌<◌, ◌≤◌, ◌⊎◌, inl, inr, Bool, true, false, ◌&&◌, List, [], ◌∷◌, length, get_or, refl, ap, sym, ◌∙◌, arith, subst, Option, Some, None, ◌==◌, add-one, IsTrue}
+use Rattle.std.specs.Prelude.{pos, ◌≤ℤ◌, not, find, filter, option_map, drop, slice_index, if◌then◌else◌, nat_lt, nat_le, is_none}
+use Rattle.std.proofs.Common.{◌≡◌, ℕ, zero, suc, ◌+◌, ◌-◌, ◌<◌, ◌≤◌, inl, inr, Bool, true, false, ◌&&◌, List, [], ◌∷◌, length, refl, ap, sym, ◌∙◌, arith, subst, Option, Some, None, ◌==◌, add-one, IsTrue}
 use Rattle.std.specs.List.{range_with_len}
-use Rattle.std.proofs.lemmas.Bool.{cases_lt, cases_Bool, and_parts, and_from, eqb-true, eq-eqb, ne_eqb, ltb-true, ltb-false, leb-true, le-leb, lt-leb, not-false, false_from_ne_true, both_ways}
+use Rattle.std.proofs.lemmas.Bool.{cases_lt, cases_Bool, and_parts, eqb-true, eq-eqb, ne_eqb, ltb-true, ltb-false, le-leb, lt-leb, not-false}
 use Rattle.std.proofs.lemmas.Int.{ints}
-use Rattle.bit_words.specs.Bits.{rank, excess, same}
-use Rattle.bit_words.proofs.Ranks.{rank-zero, rank_both, rank-le-rank}
+use Rattle.bit_words.specs.Bits.{rank, excess}
+use Rattle.bit_words.proofs.Ranks.{rank-zero, rank_both}
 use Rattle.bit_words.proofs.Finds.{none-find}
 use Rattle.parens.proofs.Balances.{IsBalanced}
-use Rattle.parens.specs.Matching.{is_open, close_of, open_of, mate_of, closes_more, or_end, balance_fault, is_balanced}
-use Rattle.parens.proofs.Arcs.{IsArc, arc-close, some_close, excess-zero}
-use Rattle.code_laws.specs.Code.{Code, is_tree, parens, place, mate, component_of, component_count, start_of, end_of}
+use Rattle.parens.specs.Matching.{is_open, close_of, open_of, mate_of, closes_more, or_end, balance_fault}
+use Rattle.parens.proofs.Arcs.{arc-close, some_close, excess-zero}
+use Rattle.code_laws.specs.Code.{Code, is_tree, parens, place, component_of, component_count, start_of, end_of}
 use Rattle.code_laws.specs.SeqFault.{is_start, starts_fault, is_balanced_in, balance_fault_of, ones_fault, first_some, seq_fault, is_sound}
 use Rattle.code_laws.specs.Orbits.{beside, orbit}
-use Rattle.code_laws.specs.declared.seq_fault.SeqFault.{SeqFault}
 use Rattle.code_laws.specs.declared.seq_fault.SeqFault.TheVariants.{Starts, Ones, Tree, Dual}
-use Rattle.code_laws.proofs.Places.{mate_placed, IsMate, place_before, place_next, place_after}
+use Rattle.code_laws.proofs.Places.{mate_placed, place_before, place_next, place_after}
 use Rattle.code_laws.proofs.Closers.{some_open}
 use Rattle.code_laws.proofs.Steps.{IsIn, HasMate, Opens, Closes, IsWell, numbers_are_orbits}
 

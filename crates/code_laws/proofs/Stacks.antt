@@ -1,33 +1,21 @@
 -- The pairs round each gap, the outermost first: one more after a place that opens, and the last one less after a place that closes.
-use Rattle.std.specs.Prelude.{ℤ, pos, ◌+ℤ◌, ◌-ℤ◌, ◌<ℤ◌, ◌≤ℤ◌, filter, find, map, option_map, ◌++◌, if◌then◌else◌}
+use Rattle.std.specs.Prelude.{pos, ◌+ℤ◌, ◌≤ℤ◌, filter, map, option_map, ◌++◌, if◌then◌else◌}
 use Rattle.std.specs.List.{range_with_len}
-use Rattle.std.proofs.Common.{◌≡◌, ◌≢◌, ℕ, zero, suc, ◌+◌, ◌-◌, ◌<◌, ◌≤◌, ◌⊎◌, inl, inr, Bool, true, false, List, [], ◌∷◌, length, refl, ap, sym, ◌∙◌, arith, subst, Option, Some, None, ◌==◌, add-one}
-use Rattle.std.proofs.lemmas.Bool.{cases_lt, cases_Bool, false_from_ne_true, both_ways}
+use Rattle.std.proofs.Common.{◌≡◌, ℕ, zero, suc, ◌+◌, ◌-◌, ◌<◌, ◌≤◌, inl, inr, Bool, true, false, List, [], ◌∷◌, length, refl, ap, sym, ◌∙◌, arith, subst, Option, Some, None}
+use Rattle.std.proofs.lemmas.Bool.{cases_lt, cases_Bool, false_from_ne_true}
 use Rattle.std.proofs.lemmas.List.{append-nil}
 use Rattle.std.proofs.lemmas.Int.{ints}
 use Rattle.bit_words.specs.Bits.{rank, excess}
 use Rattle.bit_words.proofs.Ranks.{excess_up, rank_more_yes, rank_more_no}
 use Rattle.min_max_tree.proofs.Falls.{excess-step}
-use Rattle.parens.specs.Matching.{is_open, is_round, innermost, falling, pair_number, mate_of}
+use Rattle.parens.specs.Matching.{is_open, is_round, innermost, pair_number, mate_of}
 use Rattle.parens.proofs.Balances.{IsBalanced}
 use Rattle.parens.proofs.Arcs.{IsArc}
-use Rattle.parens.proofs.Rounds.{IsAbove, round-above, above-round}
-use Rattle.code_laws.proofs.Apart.{IsGreatest, greatest-find, none_at}
+use Rattle.parens.proofs.Rounds.{round-above, above-round}
+use Rattle.parens.proofs.Greatest.{greatest-find, no_falling-find}
 use Rattle.code_laws.proofs.Walks.{filter-none}
+use Rattle.code_laws.specs.Rounds.{rounds, round_numbers, IsLastOf}
 use Rattle.code_laws.proofs.Closers.{some_open}
-
--- the opening places of the pairs round a gap
-abbrev pub rounds : List Bool → ℕ → List ℕ
-rounds bits gap = filter (is_round bits gap) (range_with_len 0 gap)
-
--- their numbers
-unfoldable pub round_numbers : List Bool → ℕ → List ℕ
-round_numbers bits gap = map (rank true bits) (rounds bits gap)
-
--- none where the list has none, and else its last number
-abbrev pub IsLastOf : List ℕ → Option ℕ → Type 0
-IsLastOf xs None = xs ≡ []
-IsLastOf xs (Some x) = (front : List ℕ) × (xs ≡ front ++ x ∷ [])
 
 range-split : (test : ℕ → Bool) (low n d : ℕ) → filter test (range_with_len low (n + d)) ≡ filter test (range_with_len low n) ++ filter test (range_with_len (low + n) d)
 range-split test low zero d =
@@ -182,9 +170,9 @@ module _ (bits : List Bool) (b : IsBalanced bits) where
   -- the last number is that of the innermost pair
   pub numbers-innermost : (gap : ℕ) (o : Option ℕ) → innermost bits gap ≡ o → IsLastOf (round_numbers bits gap) (option_map (rank true bits) o)
   unfolding innermost round_numbers
-  numbers-innermost gap None e = ap (map (rank true bits)) (filter-none (is_round bits gap) 0 gap (λ y l h. none_at (is_round bits gap) gap e y (omega arith)))
+  numbers-innermost gap None e = ap (map (rank true bits)) (filter-none (is_round bits gap) 0 gap (λ y l h. no_falling-find (is_round bits gap) gap e y (omega arith)))
   numbers-innermost gap (Some x) e =
       let g = greatest-find (is_round bits gap) gap x e in (
         map (rank true bits) (filter (is_round bits gap) (range_with_len 0 x)),
-        ap (map (rank true bits)) (rounds-split gap x g.within g.passes (λ y l h. g.after y l h)) ∙ map-append (rank true bits) (filter (is_round bits gap) (range_with_len 0 x)) (x ∷ []),
+        ap (map (rank true bits)) (rounds-split gap x g.below g.passes (λ y l h. g.after y l h)) ∙ map-append (rank true bits) (filter (is_round bits gap) (range_with_len 0 x)) (x ∷ []),
       )

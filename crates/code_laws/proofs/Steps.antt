@@ -1,19 +1,17 @@
 -- On a sound code a step goes from each position with a number to the next one with it, and from the last one to the first.
-use Rattle.std.specs.Prelude.{ℤ, pos, ◌+ℤ◌, ◌-ℤ◌, ◌<ℤ◌, ◌≤ℤ◌, not, find, filter, option_map, slice_index, slice_index_or, if◌then◌else◌, unwrap_or}
-use Rattle.std.proofs.Common.{◌≡◌, ◌≢◌, ℕ, zero, suc, ◌+◌, ◌-◌, ◌<◌, ◌≤◌, ◌⊎◌, inl, inr, Bool, true, false, ◌&&◌, List, [], ◌∷◌, length, get_or, refl, ap, sym, ◌∙◌, arith, subst, Option, Some, None, ◌==◌, add-one}
+use Rattle.std.specs.Prelude.{pos, filter}
+use Rattle.std.proofs.Common.{◌≡◌, ◌≢◌, ℕ, zero, suc, ◌+◌, ◌-◌, ◌<◌, ◌≤◌, inl, inr, Bool, true, false, List, ◌∷◌, length, refl, ap, sym, ◌∙◌, arith, subst, Option, Some, None, ◌==◌}
 use Rattle.std.specs.List.{range_with_len}
-use Rattle.std.proofs.lemmas.Bool.{cases_lt, cases_Bool, cases_eq, and_parts, and_from, eqb-true, eq-eqb, ne_eqb, false_from_ne_true, both_ways, and_left, and_right}
-use Rattle.std.proofs.lemmas.Int.{ints}
+use Rattle.std.proofs.lemmas.Bool.{cases_lt, cases_Bool, cases_eq, and_parts, and_from, eqb-true, eq-eqb, ne_eqb, both_ways, and_left, and_right}
 use Rattle.bit_words.specs.Bits.{rank, excess, same}
 use Rattle.parens.proofs.Balances.{IsBalanced}
-use Rattle.parens.specs.Matching.{is_open, close_of, open_of, mate_of, innermost}
 use Rattle.parens.proofs.Arcs.{IsArc}
-use Rattle.code_laws.specs.Code.{Code, positions, is_tree, parens, place, mate, over, after, step, component_of, component_count, start_of, end_of}
+use Rattle.code_laws.specs.Code.{Code, is_tree, parens, place, mate, after, step, component_of, component_count, start_of, end_of}
 use Rattle.code_laws.specs.Numbers.{pair_round}
-use Rattle.code_laws.specs.Orbits.{same_number, is_beside, beside, orbit, walk}
+use Rattle.code_laws.specs.Orbits.{same_number, is_beside, beside, orbit}
 use Rattle.code_laws.proofs.Apart.{number_round, none_round, apart_inside, apart_after, apart_before, number_past, number_first, number_end}
-use Rattle.code_laws.proofs.Places.{cases_kind, mate_placed, IsMate, place_before, place_next, place_other, place_after, over_other, over_mate}
-use Rattle.code_laws.proofs.Walks.{IsAfter, IsLastOne, Goes, walk-filter}
+use Rattle.code_laws.proofs.Places.{cases_kind, IsMate, place_before, place_next, place_other, place_after, over_other, over_mate}
+use Rattle.code_laws.proofs.Walks.{IsAfter, Goes, walk-filter}
 
 -- the component that a position is in
 pub record IsIn (c : Code) (p m : ℕ) : Type 0 where

@@ -1,12 +1,11 @@
 -- The orbit from any position: the positions beside it from it on, and then those before it.
 use Rattle.std.specs.Prelude.{filter, ◌++◌}
 use Rattle.std.specs.List.{range_with_len}
-use Rattle.std.proofs.Common.{◌≡◌, ℕ, zero, suc, ◌+◌, ◌-◌, ◌<◌, ◌≤◌, ◌⊎◌, inl, inr, Bool, true, false, List, [], ◌∷◌, length, refl, ap, sym, ◌∙◌, arith, subst, ◌==◌, IsTrue, append_assoc}
+use Rattle.std.proofs.Common.{◌≡◌, ℕ, zero, suc, ◌+◌, ◌-◌, ◌<◌, ◌≤◌, inl, inr, Bool, true, false, List, [], ◌∷◌, length, refl, ap, sym, ◌∙◌, arith, subst, ◌==◌}
 use Rattle.std.proofs.lemmas.Bool.{cases_lt, cases_Bool, ne_eqb, eq-eqb, both_ways}
-use Rattle.bit_words.proofs.Finds.{IsLeast}
 use Rattle.code_laws.specs.Code.{Code, step}
 use Rattle.code_laws.specs.Orbits.{walk, orbit, is_beside, from_on}
-use Rattle.code_laws.proofs.Walks.{IsAfter, IsLastOne, Goes, filter-none, filter-next}
+use Rattle.code_laws.proofs.Walks.{Goes, filter-none, filter-next}
 use Rattle.code_laws.proofs.Steps.{goes}
 use Rattle.code_laws.proofs.Sound.{SoundParts, is_well, in_one}
 use Rattle.code_laws.proofs.Beside.{AreBeside, beside-from, beside-to, beside-self, first_beside}

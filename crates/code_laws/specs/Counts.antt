@@ -1,5 +1,5 @@
 -- How many nodes, rings and edges a component has.
-use Rattle.std.specs.Prelude.{ℕ, ◌+◌, ◌-◌, ◌/◌, ◌==◌, Bool, true, false, List, filter, find, length}
+use Rattle.std.specs.Prelude.{ℕ, ◌-◌, ◌/◌, ◌==◌, Bool, List, filter, find, length}
 use Rattle.std.specs.List.{range_with_len}
 use Rattle.bit_words.specs.Lists.{is_at}
 use Rattle.code_laws.specs.Code.{Code, positions, place, start_of, end_of}

@@ -1,5 +1,5 @@
 -- When three sequences of bits are a code, and the first thing that is wrong where they are not.
-use Rattle.std.specs.Prelude.{ℕ, ◌+◌, ◌-◌, ◌==◌, Bool, true, false, not, ◌&&◌, nat_lt, if◌then◌else◌, List, [], ◌∷◌, length, find, slice_index, Option, Some, None, option_map, is_none}
+use Rattle.std.specs.Prelude.{ℕ, ◌+◌, ◌-◌, ◌==◌, Bool, true, false, not, ◌&&◌, nat_lt, if◌then◌else◌, List, [], ◌∷◌, length, find, Option, Some, None, option_map, is_none}
 use Rattle.std.specs.List.{range_with_len}
 use Rattle.bit_words.specs.Bits.{rank}
 use Rattle.parens.specs.Matching.{is_balanced}

@@ -1,5 +1,5 @@
 -- The code that a walk makes, and the numbers at its positions.
-use Rattle.std.specs.Prelude.{ℕ, ◌+◌, Bool, true, false, List, [], ◌∷◌, map, filter, zip}
+use Rattle.std.specs.Prelude.{ℕ, ◌+◌, Bool, true, false, List, map, filter, zip}
 use Rattle.bit_words.specs.Bits.{same}
 use Rattle.code_laws.specs.Code.{Code, positions}
 use Rattle.code_laws.specs.Numbers.{edge_of, node_of, ring_of}

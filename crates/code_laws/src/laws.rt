@@ -1,12 +1,13 @@
 //! What the definitions of codes say, each law the contract of a function that does nothing.
 
-ghost use Rattle.std.specs.Prelude.{◌≡◌, ◌<◌, ◌+◌, ◌-◌, ◌≤◌, ◌↔◌, ℕ, Bool, true, false, List, [], ◌∷◌, filter, map, length, IsTrue, Contains, IsNone, Some, None, option_map, nat_lt, if◌then◌else◌};
-ghost use Rattle.code_laws.specs.Code.{Code, positions, is_first, next, turn, next_back, turn_back, start_of, component_count};
+ghost use Rattle.std.specs.Prelude.{◌≡◌, ◌<◌, ◌+◌, ◌-◌, ◌≤◌, ◌↔◌, slice_index_or, ℕ, Bool, true, false, List, [], ◌∷◌, filter, map, length, IsTrue, Contains, IsNone, Some, None, option_map, nat_lt, if◌then◌else◌};
+ghost use Rattle.bit_words.specs.Bits.{rank};
+ghost use Rattle.code_laws.specs.Code.{Code, parens, positions, is_first, next, turn, next_back, turn_back, start_of, component_count};
 ghost use Rattle.code_laws.specs.Numbers.{tree_edges, edge_of, node_of, ring_of, first_of_edge, first_of_node, first_of_shell, opening_position, one_on, edge_count, node_count, shell_count};
 ghost use Rattle.code_laws.specs.declared.ring_number.RingNumber.TheVariants.{Outer, Shell};
 ghost use Rattle.code_laws.specs.declared.seq_fault.SeqFault.TheVariants.{Tree};
 ghost use Rattle.code_laws.specs.SeqFault.{seq_fault, is_sound};
-ghost use Rattle.code_laws.specs.Tour.{edge_numbers, node_numbers, ring_numbers};
+ghost use Rattle.code_laws.specs.Tour.{code_of, edge_numbers, node_numbers, ring_numbers};
 ghost use Rattle.code_laws.specs.Orbits.{orbit, is_beside, from_on};
 ghost use Rattle.code_laws.specs.Laws.{MateLaws, StepLaws};
 ghost use Rattle.code_laws.specs.Counts.{nodes_in, rings_in, edges_in, edges_of_kind};
@@ -47,6 +48,13 @@ pub fn first_positions()
     ensures no_node { (c : Code) → IsTrue (is_sound c) → (n : ℕ) → IsNone (first_of_node c n) ↔ (node_count c ≤ n) }
     ensures no_shell { (c : Code) → IsTrue (is_sound c) → (s : ℕ) → IsNone (first_of_shell c s) ↔ (shell_count c ≤ s) }
     ensures first { (c : Code) → IsTrue (is_sound c) → (e p : ℕ) → first_of_edge c e ≡ Some p → (p < length c.a) × IsTrue (is_first c p) × (edge_of c p ≡ e) }
+{}
+
+/// The code of a walk has a parenthesis for each of its positions, and gives back which of them are the first of their
+/// edge.
+pub fn walks_come_back()
+    ensures sizes { (tree first : List Bool) (starts : List ℕ) → length tree ≡ length first → (kind : Bool) → length (parens (code_of tree first starts) kind) ≡ rank kind tree (length tree) }
+    ensures firsts { (tree first : List Bool) (starts : List ℕ) → length tree ≡ length first → (p : ℕ) → p < length tree → is_first (code_of tree first starts) p ≡ slice_index_or first p false }
 {}
 
 /// Worked codes meet what the laws ask, and have these numbers and steps.

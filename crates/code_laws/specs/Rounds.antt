@@ -1,0 +1,18 @@
+-- The pairs of parentheses round a gap, as a stack of their numbers.
+use Rattle.std.specs.Prelude.{ℕ, ◌≡◌, Bool, true, List, [], ◌∷◌, ◌++◌, map, filter, Option, Some, None}
+use Rattle.std.specs.List.{range_with_len}
+use Rattle.bit_words.specs.Bits.{rank}
+use Rattle.parens.specs.Matching.{is_round}
+
+-- the opening places of the pairs round a gap, the outermost first
+abbrev pub rounds : List Bool → ℕ → List ℕ
+rounds bits gap = filter (is_round bits gap) (range_with_len 0 gap)
+
+-- their numbers
+unfoldable pub round_numbers : List Bool → ℕ → List ℕ
+round_numbers bits gap = map (rank true bits) (rounds bits gap)
+
+-- none where the list has none, and else its last number
+abbrev pub IsLastOf : List ℕ → Option ℕ → Type 0
+IsLastOf xs None = xs ≡ []
+IsLastOf xs (Some x) = (front : List ℕ) × (xs ≡ front ++ x ∷ [])
