@@ -1,2 +1,6 @@
 pub mod Views
 pub mod Faults
+pub mod Picked
+pub mod Numbered
+pub mod WordBytes
+pub mod MadeCode

@@ -1,2 +1,4 @@
 pub mod TuranView
 pub mod Sequences
+pub mod CodeWords
+pub mod Numbering

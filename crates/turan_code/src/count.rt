@@ -39,6 +39,7 @@ pub(crate) fn ones_between<C: Ledger>(
     requires within { to ≤ length (bits_of bits.now) }
     ensures ones { rank true (bits_of bits.now) from + result ≡ rank true (bits_of bits.now) to }
     ensures few { result ≤ to - from }
+    ensures grows { steps.old ≤ steps.new }
     ensures cost { steps.new ≤ steps.old + (to - from) }
 {
     let mut ones = 0;

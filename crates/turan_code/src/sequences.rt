@@ -46,6 +46,7 @@ impl<'a> Sequences<'a> {
     pub(crate) fn wrong_start<C: Ledger>(&self, steps: &mut Steps<C>) -> Option<usize>
         requires { AreFew (code_of_sequences self.now) }
         ensures index { result ≡ starts_fault (code_of_sequences self.now) }
+        ensures some_steps { steps.old + 1 ≤ steps.new }
         ensures cost { steps.new ≤ steps.old + 2 * length (code_of_sequences self.now).starts }
     {
         let mut before = 0;
@@ -63,6 +64,7 @@ impl<'a> Sequences<'a> {
     pub(crate) fn ones<C: Ledger>(&self, steps: &mut Steps<C>) -> usize
         requires { AreFew (code_of_sequences self.now) }
         ensures ones { result ≡ rank true (code_of_sequences self.now).a (length (code_of_sequences self.now).a) }
+        ensures grows { steps.old ≤ steps.new }
         ensures cost { steps.new ≤ steps.old + length (code_of_sequences self.now).a }
     {
         ones_between(&self.a, 0, self.a.len(), steps)
@@ -80,6 +82,7 @@ impl<'a> Sequences<'a> {
         requires order { from ≤ to }
         requires within { to ≤ length (code_of_sequences self.now).a }
         ensures places { place (code_of_sequences self.now) kind from + result ≡ place (code_of_sequences self.now) kind to }
+        ensures grows { steps.old ≤ steps.new }
         ensures cost { steps.new ≤ steps.old + (to - from) }
     {
         let ones = ones_between(&self.a, from, to, steps);
@@ -98,6 +101,7 @@ impl<'a> Sequences<'a> {
         requires order { from ≤ to }
         requires within { to ≤ length (parens (code_of_sequences self.now) kind) }
         ensures balanced { result ≡ is_balanced (parens (code_of_sequences self.now) kind) from to }
+        ensures grows { steps.old ≤ steps.new }
         ensures cost { steps.new ≤ steps.old + (to - from) + 8 }
         ensures cheap { IsTrue result → steps.new ≤ steps.old + 5 * (to - from) }
     {
@@ -114,6 +118,7 @@ impl<'a> Sequences<'a> {
     pub(crate) fn unbalanced<C: Ledger>(&self, kind: bool, steps: &mut Steps<C>) -> Option<usize>
         requires { AreLaidOut (code_of_sequences self.now) }
         ensures component { result ≡ balance_fault_of (code_of_sequences self.now) kind }
+        ensures grows { steps.old ≤ steps.new }
         ensures cost { steps.new ≤ steps.old + 2 * length (code_of_sequences self.now).starts + length (code_of_sequences self.now).a + 5 * length (parens (code_of_sequences self.now) kind) + 8 }
     {
         let mut start = 0;

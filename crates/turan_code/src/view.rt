@@ -77,6 +77,7 @@ impl<'a> TuranView<'a> {
         requires { p ≤ length (code_of_view self.now).a }
         ensures place { result ≡ place (code_of_view self.now) kind p }
         ensures within { result ≤ length (parens (code_of_view self.now) kind) }
+        ensures some_steps { steps.old + 1 ≤ steps.new }
         ensures cost { steps.new ≤ steps.old + 9 }
     {
         if kind {
@@ -92,6 +93,7 @@ impl<'a> TuranView<'a> {
         requires kind { is_tree (code_of_view self.now) p ≡ kind }
         ensures place { result ≡ place (code_of_view self.now) kind p }
         ensures within { result < length (parens (code_of_view self.now) kind) }
+        ensures some_steps { steps.old + 1 ≤ steps.new }
         ensures cost { steps.new ≤ steps.old + 9 }
     {
         self.place(kind, p, steps)
@@ -101,6 +103,7 @@ impl<'a> TuranView<'a> {
     fn position<C: Ledger>(&self, kind: bool, q: usize, steps: &mut Steps<C>) -> Option<usize>
         ensures position { result ≡ select kind (code_of_view self.now).a q }
         ensures within { IfSome result (λ p. p < length (code_of_view self.now).a) }
+        ensures some_steps { steps.old + 1 ≤ steps.new }
         ensures cost { steps.new ≤ steps.old + 3 * digits (length (code_of_view self.now).a + 2) + 10 }
     {
         if kind {
@@ -119,6 +122,7 @@ impl<'a> TuranView<'a> {
     ) -> Option<usize>
         ensures position { result ≡ opening_position (code_of_view self.now) kind pair }
         ensures within { IfSome result (λ p. p < length (code_of_view self.now).a) }
+        ensures some_steps { steps.old + 1 ≤ steps.new }
         ensures cost { steps.new ≤ steps.old + 6 * digits (length (code_of_view self.now).a + 2) + 20 }
     {
         match self.parens(kind).open_at(pair, steps) {
@@ -135,6 +139,7 @@ impl<'a> TuranView<'a> {
         steps: &mut Steps<C>,
     ) -> Option<usize>
         ensures position { result ≡ one_on (opening_position (code_of_view self.now) kind pair) }
+        ensures some_steps { steps.old + 1 ≤ steps.new }
         ensures cost { steps.new ≤ steps.old + 6 * digits (length (code_of_view self.now).a + 2) + 20 }
     {
         match self.opening_position(kind, pair, steps) {
@@ -161,6 +166,7 @@ impl<'a> TuranView<'a> {
     fn start<C: Ledger>(&self, component: usize, steps: &mut Steps<C>) -> usize
         requires { component ≤ component_count (code_of_view self.now) }
         ensures start { result ≡ start_of (code_of_view self.now) component }
+        ensures some_steps { steps.old + 1 ≤ steps.new }
         ensures cost { steps.new ≤ steps.old + 2 }
     {
         self.parts.starts.field(component, steps) as usize
@@ -172,6 +178,7 @@ impl<'a> TuranView<'a> {
         requires { p < length (code_of_view self.now).a }
         ensures component { result ≡ component_of (code_of_view self.now) p }
         ensures within { result < component_count (code_of_view self.now) }
+        ensures grows { steps.old ≤ steps.new }
         ensures cost { steps.new ≤ steps.old + 2 * digits (length (code_of_view self.now).a + 2) }
     {
         let mut low = 0;
@@ -192,6 +199,7 @@ impl<'a> TuranView<'a> {
         requires { p < length (code_of_view self.now).a }
         ensures after { result ≡ after (code_of_view self.now) p }
         ensures within { result < length (code_of_view self.now).a }
+        ensures some_steps { steps.old + 1 ≤ steps.new }
         ensures cost { steps.new ≤ steps.old + 2 * digits (length (code_of_view self.now).a + 2) + 4 }
     {
         let component = self.component(p, steps);
@@ -208,6 +216,7 @@ impl<'a> TuranView<'a> {
         requires { p < length (code_of_view self.now).a }
         ensures before { result ≡ before (code_of_view self.now) p }
         ensures within { result < length (code_of_view self.now).a }
+        ensures some_steps { steps.old + 1 ≤ steps.new }
         ensures cost { steps.new ≤ steps.old + 2 * digits (length (code_of_view self.now).a + 2) + 4 }
     {
         let component = self.component(p, steps);
@@ -225,6 +234,7 @@ impl<'a> TuranView<'a> {
         requires kind { is_tree (code_of_view self.now) p ≡ kind }
         ensures mate { result ≡ mate (code_of_view self.now) p }
         ensures within { result < length (code_of_view self.now).a }
+        ensures some_steps { steps.old + 1 ≤ steps.new }
         ensures cost { steps.new ≤ steps.old + 7 * digits (length (code_of_view self.now).a + 2) + 60 }
     {
         let place = self.place_of(kind, p, steps);
@@ -240,6 +250,7 @@ impl<'a> TuranView<'a> {
         requires { p < length (code_of_view self.now).a }
         ensures over { result ≡ over (code_of_view self.now) kind p }
         ensures within { result < length (code_of_view self.now).a }
+        ensures some_steps { steps.old + 1 ≤ steps.new }
         ensures cost { steps.new ≤ steps.old + 7 * digits (length (code_of_view self.now).a + 2) + 61 }
     {
         if self.is_tree(p, steps) == kind {
@@ -254,6 +265,7 @@ impl<'a> TuranView<'a> {
         requires { p < length (code_of_view self.now).a }
         ensures step { result ≡ step (code_of_view self.now) kind p }
         ensures within { result < length (code_of_view self.now).a }
+        ensures some_steps { steps.old + 1 ≤ steps.new }
         ensures cost { steps.new ≤ steps.old + 10 * digits (length (code_of_view self.now).a + 2) + 70 }
     {
         let over = self.over(kind, p, steps);
@@ -266,6 +278,7 @@ impl<'a> TuranView<'a> {
         ensures back { result ≡ step_back (code_of_view self.now) kind p }
         ensures within { result < length (code_of_view self.now).a }
         ensures undone { step (code_of_view self.now) kind result ≡ p }
+        ensures some_steps { steps.old + 1 ≤ steps.new }
         ensures cost { steps.new ≤ steps.old + 10 * digits (length (code_of_view self.now).a + 2) + 70 }
     {
         let before = self.before(p, steps);
@@ -287,6 +300,7 @@ impl<'a> TuranView<'a> {
         requires { p < length (code_of_view self.now).a }
         ensures mate { result ≡ mate (code_of_view self.now) p }
         ensures within { result < length (code_of_view self.now).a }
+        ensures some_steps { steps.old + 1 ≤ steps.new }
         ensures cost { steps.new ≤ steps.old + 8 * digits (length (code_of_view self.now).a + 2) + 64 }
     {
         let kind = self.is_tree(p, steps);
@@ -299,6 +313,7 @@ impl<'a> TuranView<'a> {
         requires { p < length (code_of_view self.now).a }
         ensures turn { result ≡ turn (code_of_view self.now) p }
         ensures within { result < length (code_of_view self.now).a }
+        ensures some_steps { steps.old + 1 ≤ steps.new }
         ensures cost { steps.new ≤ steps.old + 10 * digits (length (code_of_view self.now).a + 2) + 70 }
     {
         self.step(true, p, steps)
@@ -310,6 +325,7 @@ impl<'a> TuranView<'a> {
         requires { p < length (code_of_view self.now).a }
         ensures next { result ≡ next (code_of_view self.now) p }
         ensures within { result < length (code_of_view self.now).a }
+        ensures some_steps { steps.old + 1 ≤ steps.new }
         ensures cost { steps.new ≤ steps.old + 10 * digits (length (code_of_view self.now).a + 2) + 70 }
     {
         self.step(false, p, steps)
@@ -321,6 +337,7 @@ impl<'a> TuranView<'a> {
         ensures turn_back { result ≡ turn_back (code_of_view self.now) p }
         ensures within { result < length (code_of_view self.now).a }
         ensures undone { turn (code_of_view self.now) result ≡ p }
+        ensures some_steps { steps.old + 1 ≤ steps.new }
         ensures cost { steps.new ≤ steps.old + 10 * digits (length (code_of_view self.now).a + 2) + 70 }
     {
         self.step_back(true, p, steps)
@@ -332,6 +349,7 @@ impl<'a> TuranView<'a> {
         ensures next_back { result ≡ next_back (code_of_view self.now) p }
         ensures within { result < length (code_of_view self.now).a }
         ensures undone { next (code_of_view self.now) result ≡ p }
+        ensures some_steps { steps.old + 1 ≤ steps.new }
         ensures cost { steps.new ≤ steps.old + 10 * digits (length (code_of_view self.now).a + 2) + 70 }
     {
         self.step_back(false, p, steps)
@@ -341,6 +359,7 @@ impl<'a> TuranView<'a> {
     pub fn is_first<C: Ledger>(&self, p: usize, steps: &mut Steps<C>) -> bool
         requires { p < length (code_of_view self.now).a }
         ensures first { result ≡ is_first (code_of_view self.now) p }
+        ensures some_steps { steps.old + 1 ≤ steps.new }
         ensures cost { steps.new ≤ steps.old + 11 }
     {
         let kind = self.is_tree(p, steps);
@@ -353,6 +372,7 @@ impl<'a> TuranView<'a> {
         requires { p < length (code_of_view self.now).a }
         ensures component { result ≡ component_of (code_of_view self.now) p }
         ensures within { result < component_count (code_of_view self.now) }
+        ensures grows { steps.old ≤ steps.new }
         ensures cost { steps.new ≤ steps.old + 2 * digits (length (code_of_view self.now).a + 2) + 2 }
     {
         self.component(p, steps) as u32
@@ -362,6 +382,7 @@ impl<'a> TuranView<'a> {
     fn pair_round<C: Ledger>(&self, kind: bool, p: usize, steps: &mut Steps<C>) -> Option<usize>
         requires { p < length (code_of_view self.now).a }
         ensures pair { result ≡ pair_round (code_of_view self.now) kind p }
+        ensures some_steps { steps.old + 1 ≤ steps.new }
         ensures cost { steps.new ≤ steps.old + 4 * digits (length (code_of_view self.now).a + 2) + 58 }
     {
         let place = self.place(kind, p, steps);
@@ -378,6 +399,7 @@ impl<'a> TuranView<'a> {
         requires { p < length (code_of_view self.now).a }
         ensures node { result ≡ node_of (code_of_view self.now) p }
         ensures within { result < node_count (code_of_view self.now) }
+        ensures some_steps { steps.old + 1 ≤ steps.new }
         ensures cost { steps.new ≤ steps.old + 6 * digits (length (code_of_view self.now).a + 2) + 64 }
     {
         match self.pair_round(true, p, steps) {
@@ -390,6 +412,7 @@ impl<'a> TuranView<'a> {
     pub fn ring_of<C: Ledger>(&self, p: usize, steps: &mut Steps<C>) -> RingNumber
         requires { p < length (code_of_view self.now).a }
         ensures ring { result ≡ ring_of (code_of_view self.now) p }
+        ensures some_steps { steps.old + 1 ≤ steps.new }
         ensures cost { steps.new ≤ steps.old + 6 * digits (length (code_of_view self.now).a + 2) + 64 }
     {
         match self.pair_round(false, p, steps) {
@@ -403,6 +426,7 @@ impl<'a> TuranView<'a> {
         requires { place < length (parens (code_of_view self.now) kind) }
         ensures opening { result ≡ (if is_open (parens (code_of_view self.now) kind) place then place else mate_of (parens (code_of_view self.now) kind) place) }
         ensures within { result < length (parens (code_of_view self.now) kind) }
+        ensures some_steps { steps.old + 1 ≤ steps.new }
         ensures cost { steps.new ≤ steps.old + 4 * digits (length (code_of_view self.now).a + 2) + 42 }
     {
         let parens = self.parens(kind);
@@ -419,6 +443,7 @@ impl<'a> TuranView<'a> {
         requires { p < length (code_of_view self.now).a }
         ensures edge { result ≡ edge_of (code_of_view self.now) p }
         ensures within { result < edge_count (code_of_view self.now) }
+        ensures some_steps { steps.old + 1 ≤ steps.new }
         ensures cost { steps.new ≤ steps.old + 4 * digits (length (code_of_view self.now).a + 2) + 61 }
     {
         let kind = self.is_tree(p, steps);
@@ -436,6 +461,7 @@ impl<'a> TuranView<'a> {
     pub fn first_of_edge<C: Ledger>(&self, edge: u32, steps: &mut Steps<C>) -> Option<usize>
         ensures position { result ≡ first_of_edge (code_of_view self.now) edge }
         ensures none { IsNone result ↔ (edge_count (code_of_view self.now) ≤ edge) }
+        ensures some_steps { steps.old + 1 ≤ steps.new }
         ensures cost { steps.new ≤ steps.old + 6 * digits (length (code_of_view self.now).a + 2) + 24 }
     {
         let edge = edge as usize;
@@ -451,6 +477,7 @@ impl<'a> TuranView<'a> {
     pub fn first_of_node<C: Ledger>(&self, node: u32, steps: &mut Steps<C>) -> Option<usize>
         ensures position { result ≡ first_of_node (code_of_view self.now) node }
         ensures none { IsNone result ↔ (node_count (code_of_view self.now) ≤ node) }
+        ensures some_steps { steps.old + 1 ≤ steps.new }
         ensures cost { steps.new ≤ steps.old + 6 * digits (length (code_of_view self.now).a + 2) + 24 }
     {
         let node = node as usize;
@@ -466,6 +493,7 @@ impl<'a> TuranView<'a> {
     pub fn first_of_shell<C: Ledger>(&self, shell: u32, steps: &mut Steps<C>) -> Option<usize>
         ensures position { result ≡ first_of_shell (code_of_view self.now) shell }
         ensures none { IsNone result ↔ (shell_count (code_of_view self.now) ≤ shell) }
+        ensures some_steps { steps.old + 1 ≤ steps.new }
         ensures cost { steps.new ≤ steps.old + 6 * digits (length (code_of_view self.now).a + 2) + 24 }
     {
         self.reached_from(false, shell as usize, steps)
@@ -475,6 +503,7 @@ impl<'a> TuranView<'a> {
     pub fn start_of<C: Ledger>(&self, component: u32, steps: &mut Steps<C>) -> Option<usize>
         ensures start { IfSome result (λ p. p ≡ start_of (code_of_view self.now) component) }
         ensures none { IsNone result ↔ (component_count (code_of_view self.now) ≤ component) }
+        ensures grows { steps.old ≤ steps.new }
         ensures cost { steps.new ≤ steps.old + 6 * digits (length (code_of_view self.now).a + 2) + 24 }
     {
         let component = component as usize;

@@ -9,6 +9,7 @@ invariant-loop-at g l = record {
   high : l.at ≤ l.to;
   ones : rank true (bits_of l.bits) l.from + l.ones ≡ rank true (bits_of l.bits) l.at;
   few : l.ones ≤ l.at - l.from;
+  grows : l.initial.steps ≤ l.steps;
   count : l.steps ≤ l.initial.steps + (l.at - l.from);
 }
 

@@ -14,6 +14,7 @@ loop-component-init g c =
       begins = sym (first_start code (laid code c.requires));
       places = sym (rank-zero c.args.kind code.a);
       passed = λ k l. absurd (omega arith);
+      grows = omega arith;
       count = omega arith;
     }
 
@@ -89,6 +90,7 @@ loop-component-preserved g c =
       begins = c.field-end.ensures.field;
       places = places;
       passed = passed_one (is_balanced_in code c.args.kind) l.component l.invariant.passed (sym at ∙ sym c.if-not-is_balanced.ensures.balanced);
+      grows = omega arith;
       count = omega (arith, order, count, a, b, d);
     }
 

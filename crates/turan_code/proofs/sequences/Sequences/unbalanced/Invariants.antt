@@ -9,5 +9,6 @@ invariant-loop-component g l = record {
   begins : l.start ≡ start_of (code_of_sequences l.self) l.component;
   places : l.place ≡ place (code_of_sequences l.self) l.kind l.start;
   passed : (k : ℕ) → k < l.component → is_balanced_in (code_of_sequences l.self) l.kind k ≡ true;
+  grows : l.initial.steps ≤ l.steps;
   count : l.steps ≤ l.initial.steps + 2 * l.component + l.start + 5 * l.place;
 }

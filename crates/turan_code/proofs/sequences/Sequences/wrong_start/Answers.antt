@@ -10,6 +10,7 @@ loop-index-init g c =
     record {
       passed = λ k l. absurd (omega arith);
       last = λ l. absurd (omega arith);
+      least = omega arith;
       count = omega arith;
     }
 
@@ -41,6 +42,7 @@ loop-index-preserved g c =
     record {
       passed = passed_one (is_start code) l.index l.invariant.passed (sym at ∙ sym c.if-not-is_start.ensures);
       last = λ some. c.field-start.ensures.field ∙ ap (start_of code) e;
+      least = omega arith;
       count = omega (arith, count, c.field-start.ensures.few_steps);
     }
 

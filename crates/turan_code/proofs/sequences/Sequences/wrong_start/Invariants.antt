@@ -8,5 +8,6 @@ abbrev pub invariant-loop-index : goal.invariant-loop-index
 invariant-loop-index g l = record {
   passed : (k : ℕ) → k < l.index → is_start (code_of_sequences l.self) k ≡ true;
   last : 0 < l.index → l.before ≡ start_of (code_of_sequences l.self) (l.index - 1);
+  least : l.initial.steps + l.index ≤ l.steps;
   count : l.steps ≤ l.initial.steps + 2 * l.index;
 }

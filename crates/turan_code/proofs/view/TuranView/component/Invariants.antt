@@ -10,6 +10,7 @@ invariant-loop-high g l = record {
   within : l.high ≤ component_count (code_of_view l.self);
   from : start_of (code_of_view l.self) l.low ≤ l.p;
   to : l.p < start_of (code_of_view l.self) l.high;
+  grows : l.initial.steps ≤ l.steps;
   steps : l.steps + 2 * digits (l.high - l.low - 1) ≤ l.initial.steps + 2 * digits (component_count (code_of_view l.self));
 }
 
