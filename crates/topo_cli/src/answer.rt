@@ -52,6 +52,8 @@ fn put_out<K: Sink>(out: &mut K, text: &mut Vec<u8>) -> Result<(), Failed>
 /// The same, where enough was gathered.
 fn put_out_if_full<K: Sink>(out: &mut K, text: &mut Vec<u8>) -> Result<(), Failed>
     ensures written { OnOk result ((done : List ℕ) × Appends (K.held out.old) (K.held out.new) done × (done ++ text.new.items ≡ text.old.items)) }
+    ensures few { OnOk result (length text.new.items < GATHERED) }
+    ensures gathers { length text.old.items < GATHERED → text.new.items ≡ text.old.items }
     ensures part { OnErr result (GainsPart (K.held out.old) (K.held out.new) text.old.items) }
     ensures cause { OnErr result (Rose (K.faults out.old) (K.faults out.new)) }
     ensures never_falls { K.faults out.old ≤ K.faults out.new }
