@@ -1,6 +1,5 @@
 pub mod SetLaws
 pub mod Closed
-pub mod Returns
 pub mod Rounds
 pub mod OuterRings
 pub mod Lookups
@@ -9,7 +8,6 @@ pub mod SortedEdges
 pub mod FaultParts
 pub mod RotationFaults
 pub mod AllFaults
-pub mod Orbits
 pub mod RotationOrbits
 pub mod ComponentParts
 pub mod Pairs

@@ -1,6 +1,8 @@
 -- Lists in order, and what is least in a list.
-use Rattle.std.specs.Prelude.{Option, Some, None, if◌then◌else◌, ◌≡◌, ℕ, zero, suc, ◌≤◌, ℤ, Bool, true, false, ◌&&◌, ◌||◌, ◌==◌, nat_lt, nat_le, IsTrue, IsFalse, List, [], ◌∷◌, filter, length}
+use Rattle.std.specs.Prelude.{Option, Some, None, if◌then◌else◌, ◌≡◌, ℕ, ◌≤◌, ℤ, Bool, true, ◌&&◌, ◌==◌, nat_lt, nat_le, IsTrue, IsFalse, List, [], ◌∷◌, filter, length}
 use Rattle.std.specs.List.{list_all}
+use Rattle.orbits.specs.Walks as walks
+use Rattle.orbits.specs.Parts as parts
 use Rattle.topo_base.specs.SignedEdge.{comes_before, same_edge}
 use Rattle.plane_model.specs.Rows.{Rows}
 use Rattle.plane_model.specs.PlaneMap.{smallest}
@@ -38,27 +40,20 @@ pub record IsSmallest (p : ℤ → Bool) (ds : List ℤ) (d : ℤ) : Type 0 wher
   pub least : (e : ℤ) → IsTrue (has_edge ds e) → IsTrue (p e) → IsFalse (comes_before e d)
 
 -- a step takes the signed edges of a list to ones of it, no two to one
-pub record Permutes (us : List ℤ) (step : ℤ → ℤ) : Type 0 where
-  pub stays : (d : ℤ) → IsTrue (has_edge us d) → IsTrue (has_edge us (step d))
-  pub one : (d e : ℤ) → IsTrue (has_edge us d) → IsTrue (has_edge us e) → step d ≡ step e → d ≡ e
+abbrev pub Permutes : List ℤ → (ℤ → ℤ) → Type 0
+Permutes us step = walks.Permutes (λ d. IsTrue (has_edge us d)) step
 
 -- whether a walk by steps from d comes to the first signed edge within n steps
 abbrev pub returns : ℕ → (ℤ → ℤ) → ℤ → ℤ → Bool
-returns zero step first d = false
-returns (suc n) step first d = same_edge (step d) first || returns n step first (step d)
+returns n step first d = walks.returns same_edge n step first d
 
 -- sets of signed edges, one for each, which has it, with no signed edge twice: two that share one have the same
-pub record IsPartition (us : List ℤ) (part : ℤ → List ℤ) : Type 0 where
-  pub own : (d : ℤ) → IsTrue (has_edge us d) → IsTrue (has_edge (part d) d)
-  pub inside : (d x : ℤ) → IsTrue (has_edge us d) → IsTrue (has_edge (part d) x) → IsTrue (has_edge us x)
-  pub once : (d : ℤ) → IsTrue (has_edge us d) → IsTrue (is_distinct_edges (part d))
-  pub same : (d e x : ℤ) → IsTrue (has_edge us d) → IsTrue (has_edge us e) → IsTrue (has_edge (part d) x) → IsTrue (has_edge (part e) x) → (y : ℤ) → has_edge (part d) y ≡ has_edge (part e) y
+abbrev pub IsPartition : List ℤ → (ℤ → List ℤ) → Type 0
+IsPartition us part = parts.IsPartition same_edge us part
 
 -- each signed edge is in the set of one of the names, and in no other's
-pub record AreNames (us : List ℤ) (part : ℤ → List ℤ) (names : List ℤ) : Type 0 where
-  pub among : (r : ℤ) → IsTrue (has_edge names r) → IsTrue (has_edge us r)
-  pub there : (d : ℤ) → IsTrue (has_edge us d) → (r : ℤ) × IsTrue (has_edge names r) × IsTrue (has_edge (part r) d)
-  pub one : (d q r : ℤ) → IsTrue (has_edge us d) → IsTrue (has_edge names q) → IsTrue (has_edge names r) → IsTrue (has_edge (part q) d) → IsTrue (has_edge (part r) d) → q ≡ r
+abbrev pub AreNames : List ℤ → (ℤ → List ℤ) → List ℤ → Type 0
+AreNames us part names = parts.AreNames same_edge us part names
 
 -- the first number that equals the one behind it
 abbrev pub first_pair : List ℕ → Option ℕ
