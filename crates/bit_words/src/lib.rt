@@ -1,7 +1,8 @@
 //! Words, bits and packed numbers over borrowed bytes, with a count of the words read.
 //!
-//! A step is one call of `WordView::word`. The view keeps its bytes to itself and `Steps` has no other
-//! call that raises it, so whoever holds views alone reads no word that is not counted.
+//! A step is one call of `WordView::word`. The view keeps its bytes to itself, `Steps` has no other call that raises
+//! it, and a new counter asks for the allocator. So whoever holds views and a counter, and no allocator, reads no word
+//! that this counter doesn't count.
 #![tactic(auto)]
 
 mod bit_maker;

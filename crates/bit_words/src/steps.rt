@@ -1,9 +1,10 @@
+use std::alloc::Global;
 use std::marker::Model;
 use std::sync::ledger::{Blank, Book, Ledger, Share};
 
 /// How many words were read: a number that contracts see and no code can read. Only `WordView::word` raises it.
 ///
-/// A caller that counts nothing takes a `Blank` and begins with `Steps::new`.
+/// A caller that counts nothing takes a `Blank` and begins with `Steps::new`, which asks for the allocator besides.
 #[derive(Drop)]
 pub struct Steps<C: Ledger> {
     book: Book<C>,
@@ -23,8 +24,9 @@ impl<C: Ledger> Model for Steps<C> {
 impl<C: Ledger> Steps<C> {
     ghost use Rattle.std.specs.Prelude.{◌≡◌, ◌+◌, ◌<◌};
 
-    /// A counter that stands at 0.
-    pub fn new(blank: Blank) -> Steps<C>
+    /// A counter that stands at 0. It asks for the allocator, which it doesn't use: so a call that is handed
+    /// none can count its reads on the counter of its caller alone.
+    pub fn new(_alloc: Global, blank: Blank) -> Steps<C>
         requires name { blank.name ≡ C.name }
         requires parts { blank.parts ≡ C.parts }
         requires some { 0 < blank.parts }

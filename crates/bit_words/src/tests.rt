@@ -4,17 +4,18 @@ use crate::{
     BitMaker, BitView, PackedMaker, PackedView, Steps, WordView, first_excess, last_excess,
     ones_below, place_of_one,
 };
+use std::alloc::Global;
 use std::marker::Brand;
 use std::sync::ledger::{Blank, Ledger};
 use std::test::Fail;
 
 /// Word 1, as word 0 of a part.
-fn word_of_part<C: Ledger>(bytes: &[u8], blank: Blank) -> Option<u64>
+fn word_of_part<C: Ledger>(alloc: Global, bytes: &[u8], blank: Blank) -> Option<u64>
     requires name { blank.name ≡ C.name }
     requires parts { blank.parts ≡ C.parts }
     requires some { 0 < blank.parts }
 {
-    let mut steps = Steps::<C>::new(blank);
+    let mut steps = Steps::<C>::new(alloc, blank);
     let words = WordView::new(bytes)?;
     if words.len() < 2 {
         return None;
@@ -23,12 +24,18 @@ fn word_of_part<C: Ledger>(bytes: &[u8], blank: Blank) -> Option<u64>
 }
 
 /// Bit `i` of the first `len` bits, and the 64 bits of its word.
-fn bit_and_chunk<C: Ledger>(bytes: &[u8], len: usize, i: usize, blank: Blank) -> Option<(bool, u64)>
+fn bit_and_chunk<C: Ledger>(
+    alloc: Global,
+    bytes: &[u8],
+    len: usize,
+    i: usize,
+    blank: Blank,
+) -> Option<(bool, u64)>
     requires name { blank.name ≡ C.name }
     requires parts { blank.parts ≡ C.parts }
     requires some { 0 < blank.parts }
 {
-    let mut steps = Steps::<C>::new(blank);
+    let mut steps = Steps::<C>::new(alloc, blank);
     let words = WordView::new(bytes)?;
     if len.div_ceil(64) > words.len() {
         return None;
@@ -41,12 +48,19 @@ fn bit_and_chunk<C: Ledger>(bytes: &[u8], len: usize, i: usize, blank: Blank) ->
 }
 
 /// Number `i` of `count` numbers of `width` bits.
-fn number<C: Ledger>(bytes: &[u8], count: u16, width: u32, i: usize, blank: Blank) -> Option<u64>
+fn number<C: Ledger>(
+    alloc: Global,
+    bytes: &[u8],
+    count: u16,
+    width: u32,
+    i: usize,
+    blank: Blank,
+) -> Option<u64>
     requires name { blank.name ≡ C.name }
     requires parts { blank.parts ≡ C.parts }
     requires some { 0 < blank.parts }
 {
-    let mut steps = Steps::<C>::new(blank);
+    let mut steps = Steps::<C>::new(alloc, blank);
     let words = WordView::new(bytes)?;
     if width == 0 || width > 64 {
         return None;
@@ -71,7 +85,7 @@ fn bytes_that_are_no_whole_words_are_refused(rt: HostRuntime) {
 fn a_part_begins_at_its_word(rt: HostRuntime) {
     let bytes = [1, 0, 0, 0, 0, 0, 0, 0, 3, 2, 0, 0, 0, 0, 0, 1];
     assert_eq!(rt;
-        word_of_part::<Brand>(&bytes, Blank::new(1)),
+        word_of_part::<Brand>(rt.alloc(), &bytes, Blank::new(1)),
         Some(72057594037928451)
     );
 }
@@ -82,11 +96,11 @@ fn a_chunk_ends_with_the_bits(rt: HostRuntime) {
         2, 0, 0, 0, 0, 0, 0, 0, 255, 255, 255, 255, 255, 255, 255, 255,
     ];
     assert_eq!(rt;
-        bit_and_chunk::<Brand>(&bytes, 70, 1, Blank::new(1)),
+        bit_and_chunk::<Brand>(rt.alloc(), &bytes, 70, 1, Blank::new(1)),
         Some((true, 2))
     );
     assert_eq!(rt;
-        bit_and_chunk::<Brand>(&bytes, 70, 69, Blank::new(1)),
+        bit_and_chunk::<Brand>(rt.alloc(), &bytes, 70, 69, Blank::new(1)),
         Some((true, 63))
     );
 }
@@ -94,25 +108,34 @@ fn a_chunk_ends_with_the_bits(rt: HostRuntime) {
 #[test]
 fn numbers_are_read_across_words(rt: HostRuntime) {
     let sevens = [1, 193, 128, 80, 48, 28, 16, 137, 63, 0, 0, 0, 0, 0, 0, 0];
-    assert_eq!(rt; number::<Brand>(&sevens, 10, 7, 8, Blank::new(1)), Some(9));
     assert_eq!(rt;
-        number::<Brand>(&sevens, 10, 7, 9, Blank::new(1)),
+        number::<Brand>(rt.alloc(), &sevens, 10, 7, 8, Blank::new(1)),
+        Some(9)
+    );
+    assert_eq!(rt;
+        number::<Brand>(rt.alloc(), &sevens, 10, 7, 9, Blank::new(1)),
         Some(127)
     );
     let longer = [1, 0, 0, 0, 254, 255, 255, 255, 23, 0, 0, 0, 0, 0, 0, 0];
     assert_eq!(rt;
-        number::<Brand>(&longer, 3, 33, 1, Blank::new(1)),
+        number::<Brand>(rt.alloc(), &longer, 3, 33, 1, Blank::new(1)),
         Some(8589934591)
     );
-    assert_eq!(rt; number::<Brand>(&longer, 3, 33, 2, Blank::new(1)), Some(5));
+    assert_eq!(rt;
+        number::<Brand>(rt.alloc(), &longer, 3, 33, 2, Blank::new(1)),
+        Some(5)
+    );
     let words = [
         255, 255, 255, 255, 255, 255, 255, 255, 3, 0, 0, 0, 0, 0, 0, 0,
     ];
     assert_eq!(rt;
-        number::<Brand>(&words, 2, 64, 0, Blank::new(1)),
+        number::<Brand>(rt.alloc(), &words, 2, 64, 0, Blank::new(1)),
         Some(18446744073709551615)
     );
-    assert_eq!(rt; number::<Brand>(&words, 2, 64, 1, Blank::new(1)), Some(3));
+    assert_eq!(rt;
+        number::<Brand>(rt.alloc(), &words, 2, 64, 1, Blank::new(1)),
+        Some(3)
+    );
 }
 
 #[test]
@@ -181,7 +204,7 @@ fn numbers_of_each_width_straddle_a_word(rt: HostRuntime) {
     ];
     for (count, width, i, want) in rows {
         assert_eq!(rt;
-            number::<Brand>(&bytes, count, width, i, Blank::new(1)),
+            number::<Brand>(rt.alloc(), &bytes, count, width, i, Blank::new(1)),
             Some(want),
             "{width}"
         );
@@ -193,15 +216,21 @@ fn words_end_between_two_bits_and_lists_may_be_empty(rt: HostRuntime) -> Result<
     let bytes = [0, 0, 0, 0, 0, 0, 0, 128, 2, 0, 0, 0, 0, 0, 0, 0];
     let word = 9223372036854775808;
     assert_eq!(rt;
-        bit_and_chunk::<Brand>(&bytes, 128, 63, Blank::new(1)),
+        bit_and_chunk::<Brand>(rt.alloc(), &bytes, 128, 63, Blank::new(1)),
         Some((true, word))
     );
     assert_eq!(rt;
-        bit_and_chunk::<Brand>(&bytes, 128, 64, Blank::new(1)),
+        bit_and_chunk::<Brand>(rt.alloc(), &bytes, 128, 64, Blank::new(1)),
         Some((false, 2))
     );
-    assert_eq!(rt; bit_and_chunk::<Brand>(&[], 0, 0, Blank::new(1)), None);
-    assert_eq!(rt; number::<Brand>(&[], 0, 7, 0, Blank::new(1)), None);
+    assert_eq!(rt;
+        bit_and_chunk::<Brand>(rt.alloc(), &[], 0, 0, Blank::new(1)),
+        None
+    );
+    assert_eq!(rt;
+        number::<Brand>(rt.alloc(), &[], 0, 7, 0, Blank::new(1)),
+        None
+    );
     let bits = BitMaker::new(rt.alloc());
     assert_eq!(rt; bits.len(), 0);
     assert!(rt; bits.finish().is_empty());
