@@ -39,7 +39,8 @@ impl<'a> RankView<'a> {
     /// The bits without their counts.
     #[inline]
     pub fn bits(&self) -> BitView<'a>
-        ensures { bits_of result ≡ counted self.now }
+        ensures bits { bits_of result ≡ counted self.now }
+        ensures few { length (counted self.now) ≤ 2147483647 }
     {
         self.bits
     }

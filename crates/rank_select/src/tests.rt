@@ -63,12 +63,16 @@ fn image_of(alloc: Global, bits: &[bool]) -> Result<Image, Fail>
 }
 
 /// The bits of an image with its counts, or the first wrong count. None where its sizes do not fit.
-fn open<'a, C: Ledger>(image: &'a Image, blank: Blank) -> Option<Result<RankView<'a>, WrongEntry>>
+fn open<'a, C: Ledger>(
+    alloc: Global,
+    image: &'a Image,
+    blank: Blank,
+) -> Option<Result<RankView<'a>, WrongEntry>>
     requires name { blank.name ≡ C.name }
     requires parts { blank.parts ≡ C.parts }
     requires some { 0 < blank.parts }
 {
-    let mut steps = Steps::<C>::new(blank);
+    let mut steps = Steps::<C>::new(alloc, blank);
     let words = WordView::new(image.bits.as_slice())?;
     let count_words = WordView::new(image.counts.as_slice())?;
     if image.len > 2147483647 || image.len.div_ceil(64) > words.len() {
@@ -91,12 +95,12 @@ fn plain_count(bits: &[bool], kind: bool) -> usize {
 }
 
 /// Whether each count and each place is what plain counting gives.
-fn agrees<C: Ledger>(ranks: RankView<'_>, bits: &[bool], blank: Blank) -> bool
+fn agrees<C: Ledger>(alloc: Global, ranks: RankView<'_>, bits: &[bool], blank: Blank) -> bool
     requires name { blank.name ≡ C.name }
     requires parts { blank.parts ≡ C.parts }
     requires some { 0 < blank.parts }
 {
-    let mut steps = Steps::<C>::new(blank);
+    let mut steps = Steps::<C>::new(alloc, blank);
     let len = ranks.bits().len();
     if len != bits.len() {
         return false;
@@ -134,12 +138,12 @@ struct SixBits {
     zero_one: Option<usize>,
 }
 
-fn six_bits<C: Ledger>(ranks: RankView<'_>, blank: Blank) -> Option<SixBits>
+fn six_bits<C: Ledger>(alloc: Global, ranks: RankView<'_>, blank: Blank) -> Option<SixBits>
     requires name { blank.name ≡ C.name }
     requires parts { blank.parts ≡ C.parts }
     requires some { 0 < blank.parts }
 {
-    let mut steps = Steps::<C>::new(blank);
+    let mut steps = Steps::<C>::new(alloc, blank);
     if ranks.bits().len() < 6 {
         return None;
     }
@@ -160,7 +164,7 @@ fn six_bits_are_counted_and_found(rt: HostRuntime) -> Result<(), Fail> {
         image.counts.as_slice(),
         [0, 0, 0, 0, 4, 0, 0, 0].as_slice()
     );
-    let Some(Ok(ranks)) = open::<Brand>(&image, Blank::new(1)) else {
+    let Some(Ok(ranks)) = open::<Brand>(rt.alloc(), &image, Blank::new(1)) else {
         panic!(rt; "the counts are refused");
     };
     let want = SixBits {
@@ -170,7 +174,10 @@ fn six_bits_are_counted_and_found(rt: HostRuntime) -> Result<(), Fail> {
         one_four: None,
         zero_one: Some(5),
     };
-    assert_eq!(rt; six_bits::<Brand>(ranks, Blank::new(1)), Some(want));
+    assert_eq!(rt;
+        six_bits::<Brand>(rt.alloc(), ranks, Blank::new(1)),
+        Some(want)
+    );
     Ok(())
 }
 
@@ -178,7 +185,7 @@ fn six_bits_are_counted_and_found(rt: HostRuntime) -> Result<(), Fail> {
 fn the_first_wrong_count_is_named(rt: HostRuntime) -> Result<(), Fail> {
     let mut image = image_of(rt.alloc(), &[true, true, false, true, true, false])?;
     image.counts = bytes_of(rt.alloc(), &[5 << 32])?;
-    let Some(Err(wrong)) = open::<Brand>(&image, Blank::new(1)) else {
+    let Some(Err(wrong)) = open::<Brand>(rt.alloc(), &image, Blank::new(1)) else {
         panic!(rt; "the counts are taken");
     };
     let want = WrongEntry {
@@ -197,10 +204,10 @@ fn counts_and_places_are_those_of_plain_counting(rt: HostRuntime) -> Result<(), 
             let bits = pattern.bits(rt.alloc(), len)?;
             assert!(rt; bits.len() <= 2147483647);
             let image = image_of(rt.alloc(), bits.as_slice())?;
-            let Some(Ok(ranks)) = open::<Brand>(&image, Blank::new(1)) else {
+            let Some(Ok(ranks)) = open::<Brand>(rt.alloc(), &image, Blank::new(1)) else {
                 panic!(rt; "the counts of {len} bits {pattern:?} are refused");
             };
-            let agreed = agrees::<Brand>(ranks, bits.as_slice(), Blank::new(1));
+            let agreed = agrees::<Brand>(rt.alloc(), ranks, bits.as_slice(), Blank::new(1));
             assert!(rt; agreed, "{len} bits {pattern:?}");
         }
     }
