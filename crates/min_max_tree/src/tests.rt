@@ -184,6 +184,7 @@ fn agrees<C: Ledger>(
 
 /// Whether the tree of an image agrees with plain counting, or its first wrong word. None where its sizes do not fit.
 fn examined<C: Ledger>(
+    alloc: Global,
     image: &Image,
     excesses: &[i64],
     stride: usize,
@@ -194,7 +195,7 @@ fn examined<C: Ledger>(
     requires parts { blank.parts ≡ C.parts }
     requires some { 0 < blank.parts }
 {
-    let mut steps = Steps::<C>::new(blank);
+    let mut steps = Steps::<C>::new(alloc, blank);
     let words = WordView::new(image.bits.as_slice())?;
     let nodes = WordView::new(image.nodes.as_slice())?;
     if image.len > 2147483647 || image.len.div_ceil(64) > words.len() {
@@ -213,6 +214,7 @@ fn examined<C: Ledger>(
 
 /// The fall from place 0, the fall back from place 2, and the least excess, of two bits.
 fn falls_of_two<C: Ledger>(
+    alloc: Global,
     image: &Image,
     blank: Blank,
 ) -> Option<(Option<usize>, Option<usize>, i64)>
@@ -220,7 +222,7 @@ fn falls_of_two<C: Ledger>(
     requires parts { blank.parts ≡ C.parts }
     requires some { 0 < blank.parts }
 {
-    let mut steps = Steps::<C>::new(blank);
+    let mut steps = Steps::<C>::new(alloc, blank);
     let words = WordView::new(image.bits.as_slice())?;
     let nodes = WordView::new(image.nodes.as_slice())?;
     if words.len() != 1 || nodes.len() != node_count(2) {
@@ -243,7 +245,7 @@ fn a_zero_and_a_one_fall_at_place_one(rt: HostRuntime) -> Result<(), Fail> {
         image.nodes.as_slice(),
         18446744069414584320_u64.to_le_bytes().as_slice()
     );
-    let falls = falls_of_two::<Brand>(&image, Blank::new(1));
+    let falls = falls_of_two::<Brand>(rt.alloc(), &image, Blank::new(1));
     assert_eq!(rt; falls, Some((Some(1), Some(1), -1)));
     Ok(())
 }
@@ -264,7 +266,7 @@ fn the_first_wrong_word_is_named(rt: HostRuntime) -> Result<(), Fail> {
         want: 0,
         found: 5,
     };
-    let outcome = examined::<Brand>(&image, &[], 1, Blank::new(1));
+    let outcome = examined::<Brand>(rt.alloc(), &image, &[], 1, Blank::new(1));
     assert_eq!(rt; outcome, Some(Err(want)));
     Ok(())
 }
@@ -287,7 +289,13 @@ fn excesses_falls_and_least_excesses_are_those_of_plain_counting(
             assert!(rt; bits.len() <= 2147483647);
             let image = image_of(rt.alloc(), bits.as_slice())?;
             let excesses = plain_excesses(rt.alloc(), bits.as_slice())?;
-            let outcome = examined::<Brand>(&image, excesses.as_slice(), stride, Blank::new(1));
+            let outcome = examined::<Brand>(
+                rt.alloc(),
+                &image,
+                excesses.as_slice(),
+                stride,
+                Blank::new(1),
+            );
             assert_eq!(rt; outcome, Some(Ok(true)), "{len} bits {pattern:?}");
         }
     }

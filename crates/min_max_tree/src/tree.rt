@@ -55,6 +55,15 @@ impl<'a> MinMaxView<'a> {
         MinMaxView { bits, nodes }
     }
 
+    /// How many bits there are. No word is read.
+    #[inline]
+    pub fn len(&self) -> usize
+        ensures len { result ≡ length (searched self.now) }
+        ensures few { result ≤ 2147483647 }
+    {
+        self.bits.len()
+    }
+
     fn node<C: Ledger>(&self, level: Level, j: usize, steps: &mut Steps<C>) -> Node
         requires level { IsLevel (length (searched self.now)) level }
         requires within { j < size_at (length (searched self.now)) level.height }
