@@ -91,12 +91,12 @@ struct SixBits {
     opens_before_four: usize,
 }
 
-fn six_bits<C: Ledger>(image: &Image, blank: Blank) -> Option<SixBits>
+fn six_bits<C: Ledger>(alloc: Global, image: &Image, blank: Blank) -> Option<SixBits>
     requires name { blank.name ≡ C.name }
     requires parts { blank.parts ≡ C.parts }
     requires some { 0 < blank.parts }
 {
-    let mut steps = Steps::<C>::new(blank);
+    let mut steps = Steps::<C>::new(alloc, blank);
     if image.len != 6 {
         return None;
     }
@@ -125,6 +125,7 @@ fn six_bits<C: Ledger>(image: &Image, blank: Blank) -> Option<SixBits>
 
 /// What `check_balanced` says of the bits from `from` to before `to`. None where they do not fit.
 fn balance<C: Ledger>(
+    alloc: Global,
     image: &Image,
     from: usize,
     to: usize,
@@ -134,7 +135,7 @@ fn balance<C: Ledger>(
     requires parts { blank.parts ≡ C.parts }
     requires some { 0 < blank.parts }
 {
-    let mut steps = Steps::<C>::new(blank);
+    let mut steps = Steps::<C>::new(alloc, blank);
     let bits = bits_of(image)?;
     if from > to || to > bits.len() {
         return None;
@@ -207,7 +208,7 @@ fn examined<C: Ledger>(alloc: Global, bits: &[bool], blank: Blank) -> Result<boo
     requires parts { blank.parts ≡ C.parts }
     requires some { 0 < blank.parts }
 {
-    let mut steps = Steps::<C>::new(blank);
+    let mut steps = Steps::<C>::new(alloc, blank);
     let image = image_of(alloc, bits)?;
     let Some(parens) = parens_in(&image, &mut steps) else {
         return Ok(false);
@@ -252,7 +253,10 @@ fn six_bits_have_their_mates_and_enclosing_pairs(rt: HostRuntime) -> Result<(), 
         fourth_open: None,
         opens_before_four: 3,
     };
-    assert_eq!(rt; six_bits::<Brand>(&image, Blank::new(1)), Some(want));
+    assert_eq!(rt;
+        six_bits::<Brand>(rt.alloc(), &image, Blank::new(1)),
+        Some(want)
+    );
     Ok(())
 }
 
@@ -260,34 +264,40 @@ fn six_bits_have_their_mates_and_enclosing_pairs(rt: HostRuntime) -> Result<(), 
 fn the_first_unmatched_place_is_named(rt: HostRuntime) -> Result<(), Fail> {
     let closes = image_of(rt.alloc(), &[true, false, false, true])?;
     assert_eq!(rt;
-        balance::<Brand>(&closes, 0, 4, Blank::new(1)),
+        balance::<Brand>(rt.alloc(), &closes, 0, 4, Blank::new(1)),
         Some(Err(2))
     );
     assert_eq!(rt;
-        balance::<Brand>(&closes, 0, 2, Blank::new(1)),
+        balance::<Brand>(rt.alloc(), &closes, 0, 2, Blank::new(1)),
         Some(Ok(()))
     );
     assert_eq!(rt;
-        balance::<Brand>(&closes, 1, 2, Blank::new(1)),
+        balance::<Brand>(rt.alloc(), &closes, 1, 2, Blank::new(1)),
         Some(Err(1))
     );
     assert_eq!(rt;
-        balance::<Brand>(&closes, 3, 3, Blank::new(1)),
+        balance::<Brand>(rt.alloc(), &closes, 3, 3, Blank::new(1)),
         Some(Ok(()))
     );
     let opens = image_of(rt.alloc(), &[true, true, false])?;
-    assert_eq!(rt; balance::<Brand>(&opens, 0, 3, Blank::new(1)), Some(Err(3)));
-    assert_eq!(rt; balance::<Brand>(&opens, 1, 3, Blank::new(1)), Some(Ok(())));
+    assert_eq!(rt;
+        balance::<Brand>(rt.alloc(), &opens, 0, 3, Blank::new(1)),
+        Some(Err(3))
+    );
+    assert_eq!(rt;
+        balance::<Brand>(rt.alloc(), &opens, 1, 3, Blank::new(1)),
+        Some(Ok(()))
+    );
     Ok(())
 }
 
 /// Whether places of a sequence of 100,000 pairs are as `want` says: their mate and what encloses their gap.
-fn sampled<C: Ledger>(image: &Image, shape: Shape, blank: Blank) -> Option<bool>
+fn sampled<C: Ledger>(alloc: Global, image: &Image, shape: Shape, blank: Blank) -> Option<bool>
     requires name { blank.name ≡ C.name }
     requires parts { blank.parts ≡ C.parts }
     requires some { 0 < blank.parts }
 {
-    let mut steps = Steps::<C>::new(blank);
+    let mut steps = Steps::<C>::new(alloc, blank);
     let parens = parens_in(image, &mut steps)?;
     if image.len != 200000 {
         return None;
@@ -351,7 +361,7 @@ fn deep_pairs_and_a_long_row_are_found(rt: HostRuntime) -> Result<(), Fail> {
         let bits = shape.bits(rt.alloc())?;
         assert!(rt; bits.len() <= 2147483647);
         let image = image_of(rt.alloc(), bits.as_slice())?;
-        let found = sampled::<Brand>(&image, shape, Blank::new(1));
+        let found = sampled::<Brand>(rt.alloc(), &image, shape, Blank::new(1));
         assert_eq!(rt; found, Some(true), "{shape:?}");
     }
     Ok(())

@@ -42,7 +42,9 @@ impl<'a> ParenView<'a> {
     /// How many places there are. No word is read.
     #[inline]
     pub fn len(&self) -> usize
-        ensures { result ≡ length (parens_of self.now) }
+        ensures len { result ≡ length (parens_of self.now) }
+        ensures few { result ≤ 2147483647 }
+        ensures balanced { IsTrue (is_balanced (parens_of self.now) 0 (length (parens_of self.now))) }
     {
         self.ranks.bits().len()
     }
