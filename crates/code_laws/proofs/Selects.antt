@@ -215,3 +215,12 @@ module _ (c : Code) (s : SoundParts c) where
       let k = opening_none-iff false x in
       let on = one_on-none (opening_position c false x) in
       subst (λ (o : Option ℕ). IsNone o ↔ (shell_count c ≤ x)) (sym (shell_by_select x)) (λ z. k.0 (on.0 z), λ h. on.1 (k.1 h))
+
+  -- first positions are positions
+  pub node_first-within : (n p : ℕ) → first_of_node c n ≡ Some p → p < length c.a
+  unfolding first_of_node
+  node_first-within n p h = let l = least-find (λ q. node_of c q == n) 0 (length c.a) p h in omega (arith, l.within)
+
+  pub shell_first-within : (x p : ℕ) → first_of_shell c x ≡ Some p → p < length c.a
+  unfolding first_of_shell
+  shell_first-within x p h = let l = least-find (λ q. is_shell x (ring_of c q)) 0 (length c.a) p h in omega (arith, l.within)

@@ -3,6 +3,7 @@ use Rattle.std.specs.Prelude.{filter, ◌++◌}
 use Rattle.std.specs.List.{range_with_len}
 use Rattle.std.proofs.Common.{◌≡◌, ℕ, zero, suc, ◌+◌, ◌-◌, ◌<◌, ◌≤◌, inl, inr, Bool, true, false, List, [], ◌∷◌, length, refl, ap, sym, ◌∙◌, arith, subst, ◌==◌}
 use Rattle.std.proofs.lemmas.Bool.{cases_lt, cases_Bool, ne_eqb, eq-eqb, both_ways}
+use Rattle.orbits.specs.Walks as walks
 use Rattle.code_laws.specs.Code.{Code, step}
 use Rattle.code_laws.specs.Orbits.{walk, orbit, is_beside, from_on}
 use Rattle.code_laws.proofs.Walks.{Goes, filter-none, filter-next}
@@ -21,7 +22,7 @@ low_part test first p l passes none =
 module _ (test : ℕ → Bool) (n first p : ℕ) (f : ℕ → ℕ) (p_in : p < n) (p_passes : test p ≡ true) (goes : (x : ℕ) → x < n → test x ≡ true → Goes test n first x (f x)) where
   -- from below p up to the return
   walk-low : (fuel x : ℕ) → p ≤ x + fuel → x < p → test x ≡ true → walk fuel f p x ≡ x ∷ filter test (range_with_len (x + 1) (p - (x + 1)))
-  unfolding walk
+  unfolding walks.until_return
   walk-low zero x enough l passes = absurd (omega arith)
   walk-low (suc fuel) x enough l passes =
       elim (goes x (omega arith) passes) [
@@ -45,7 +46,7 @@ module _ (test : ℕ → Bool) (n first p : ℕ) (f : ℕ → ℕ) (p_in : p < n
   -- from p on to the last, and on from the first
   walk-up : (first_passes : test first ≡ true) (none_before : (y : ℕ) → y < first → test y ≡ false) (fuel x : ℕ) → n + p ≤ x + fuel → p ≤ x → x < n → first ≤ p → test x ≡ true
       → walk fuel f p x ≡ x ∷ (filter test (range_with_len (x + 1) (n - (x + 1))) ++ filter test (range_with_len 0 p))
-  unfolding walk
+  unfolding walks.until_return
   walk-up first_passes none_before zero x enough from to low passes = absurd (omega arith)
   walk-up first_passes none_before (suc fuel) x enough from to low passes =
       elim (goes x to passes) [

@@ -3,6 +3,7 @@ use Rattle.std.proofs.Common.{◌≡◌, ℕ, zero, suc, ◌+◌, ◌-◌, ◌<�
 use Rattle.std.specs.Prelude.{filter}
 use Rattle.std.specs.List.{range_with_len}
 use Rattle.std.proofs.lemmas.Bool.{cases_lt, ne_eqb}
+use Rattle.orbits.specs.Walks as walks
 use Rattle.code_laws.specs.Orbits.{walk}
 
 -- q is the number with the property after p, below n
@@ -45,7 +46,7 @@ pub walk-filter :
     (fuel n first p : ℕ) (test : ℕ → Bool) (f : ℕ → ℕ) → n ≤ p + fuel → first ≤ p → p < n
     → ((x : ℕ) → first ≤ x → x < n → test x ≡ true → Goes test n first x (f x)) → test p ≡ true
     → walk fuel f first p ≡ p ∷ filter test (range_with_len (p + 1) (n - (p + 1)))
-unfolding walk
+unfolding walks.until_return
 walk-filter zero n first p test f fuel_left above below goes passes = absurd (omega arith)
 walk-filter (suc fuel) n first p test f fuel_left above below goes passes =
     elim (goes p above below passes) [

@@ -1,5 +1,5 @@
 -- The numbers of edges, nodes and rings at each position.
-use Rattle.std.specs.Prelude.{ℕ, ◌+◌, ◌/◌, ◌==◌, Bool, true, false, if◌then◌else◌, length, find, Option, Some, None, option_map}
+use Rattle.std.specs.Prelude.{ℕ, ◌+◌, ◌/◌, ◌==◌, Bool, true, false, nat_lt, if◌then◌else◌, length, find, Option, Some, None, option_map}
 use Rattle.std.specs.Option.{option_and_then}
 use Rattle.bit_words.specs.Bits.{rank, select}
 use Rattle.parens.specs.Matching.{pair_number, innermost}
@@ -58,6 +58,11 @@ is_outer j (Shell s) = false
 abbrev pub is_ring : RingNumber → RingNumber → Bool
 is_ring (Outer j) r = is_outer j r
 is_ring (Shell s) r = is_shell s r
+
+-- whether a code has this ring
+abbrev pub has_ring : Code → RingNumber → Bool
+has_ring c (Outer j) = nat_lt j (component_count c)
+has_ring c (Shell s) = nat_lt s (shell_count c)
 
 -- the first position of an edge, a node or a shell
 unfoldable pub first_of_edge : Code → ℕ → Option ℕ

@@ -1,13 +1,13 @@
 -- Walks over positions, and the positions with one number.
-use Rattle.std.specs.Prelude.{ℕ, zero, suc, ◌==◌, Bool, true, false, ◌&&◌, if◌then◌else◌, List, [], ◌∷◌, ◌++◌, ◌-◌, filter, length, Option, Some, None}
+use Rattle.std.specs.Prelude.{ℕ, ◌==◌, Bool, true, false, ◌&&◌, List, ◌++◌, ◌-◌, filter, length, Option, Some, None}
 use Rattle.std.specs.List.{range_with_len}
+use Rattle.orbits.specs.Walks as walks
 use Rattle.code_laws.specs.Code.{Code, positions, component_of, step}
 use Rattle.code_laws.specs.Numbers.{pair_round}
 
 -- p, f p, f (f p) and so on up to the first return to `first`: the first n of these
-unfoldable pub walk : ℕ → (ℕ → ℕ) → ℕ → ℕ → List ℕ
-walk zero f first p = []
-walk (suc n) f first p = let more = walk n f first (f p) in p ∷ (if f p == first then [] else more)
+abbrev pub walk : ℕ → (ℕ → ℕ) → ℕ → ℕ → List ℕ
+walk n f first p = walks.until_return (λ x y. x == y) n f first p
 
 abbrev pub orbit : Code → Bool → ℕ → List ℕ
 orbit c kind p = walk (length c.a) (step c kind) p p
