@@ -15,7 +15,7 @@ use Rattle.code_laws.proofs.Sound.{sound_parts, rises, start_within, places_with
 use Rattle.code_laws.proofs.Edges.{place_in, laws, edge_within}
 use Rattle.code_laws.proofs.Mates.{first_at}
 use Rattle.code_laws.proofs.Numbered.{round_below}
-use Rattle.code_laws.proofs.Selects.{selected, pairs, edge_by_select, node_by_select, edge_none, node_none, shell_none, shell_by_select, node_within}
+use Rattle.code_laws.proofs.Selects.{selected, pairs, edge_by_select, node_by_select, edge_none, node_none, shell_none, shell_by_select, node_within, node_first-within, shell_first-within}
 
 pub ruleset halving = (digits-halved, digits-mono)
 
@@ -179,3 +179,19 @@ module _ (c : Code) (h : is_sound c ≡ true) where
 
   pub shell_missing : (x : ℕ) (o : Option ℕ) → o ≡ first_of_shell c x → IsNone o ↔ (shell_count c ≤ x)
   shell_missing x o f = subst (λ (y : Option ℕ). IsNone y ↔ (shell_count c ≤ x)) (sym f) (shell_none c (sound_parts c h) x)
+
+  pub node_inside : (n : ℕ) (o : Option ℕ) → o ≡ first_of_node c n → IfSome o (λ p. p < length c.a)
+  node_inside n None f = tt
+  node_inside n (Some p) f = node_first-within c (sound_parts c h) n p (sym f)
+
+  pub shell_inside : (x : ℕ) (o : Option ℕ) → o ≡ first_of_shell c x → IfSome o (λ p. p < length c.a)
+  shell_inside x None f = tt
+  shell_inside x (Some p) f = shell_first-within c (sound_parts c h) x p (sym f)
+
+  -- a component begins within the code
+  pub start_inside : (n : ℕ) → n < component_count c → start_of c n < length c.a
+  start_inside n l = node_first-within c (sound_parts c h) n (start_of c n) (sym (root_first n l))
+
+  -- the ring of a position is one of the code
+  pub shell_below : (p pair : ℕ) → p < length c.a → Some pair ≡ pair_round c false p → pair < shell_count c
+  shell_below p pair l e = let s = sound_parts c h in let b = round_below c s false p pair l (sym e) in let m = pairs c s false in omega (arith, b, m)

@@ -27,7 +27,7 @@ fn told<C: Ledger>(
     requires parts { blank.parts ≡ C.parts }
     requires some { 0 < blank.parts }
 {
-    let mut steps = Steps::<C>::new(blank);
+    let mut steps = Steps::<C>::new(alloc, blank);
     let mut image = image_of(alloc, walk)?;
     image.a = Bits::new(alloc, walk.tree.len(), &[a], &[], &[])?;
     let Some(found) = image.sequences() else {
@@ -176,7 +176,7 @@ fn examined<C: Ledger>(
     requires parts { blank.parts ≡ C.parts }
     requires some { 0 < blank.parts }
 {
-    let mut steps = Steps::<C>::new(blank);
+    let mut steps = Steps::<C>::new(alloc, blank);
     let image = image_of(alloc, walk)?;
     let Some(view) = image.view(&mut steps) else {
         return Ok(Some(Wrong::Image));
@@ -256,7 +256,7 @@ fn compared<C: Ledger>(alloc: Global, walk: Walk<'_>, blank: Blank) -> Result<Op
     requires parts { blank.parts ≡ C.parts }
     requires some { 0 < blank.parts }
 {
-    let mut steps = Steps::<C>::new(blank);
+    let mut steps = Steps::<C>::new(alloc, blank);
     let image = image_of(alloc, walk)?;
     let Some(view) = image.view(&mut steps) else {
         return Ok(Some(Wrong::Image));

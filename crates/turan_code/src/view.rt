@@ -38,7 +38,7 @@ impl<'a> TuranView<'a> {
     ghost use Rattle.bit_words.specs.Bits.{select};
     ghost use Rattle.parens.specs.Matching.{mate_of, is_open};
     ghost use Rattle.code_laws.specs.Code.{is_tree, is_first, parens, place, mate, component_of, component_count, start_of, end_of, after, before, turn, next, turn_back, next_back, over, step, step_back};
-    ghost use Rattle.code_laws.specs.Numbers.{tree_edges, edge_of, node_of, ring_of, pair_round, first_of_edge, first_of_node, first_of_shell, opening_position, one_on, edge_count, node_count, shell_count};
+    ghost use Rattle.code_laws.specs.Numbers.{tree_edges, edge_of, node_of, ring_of, pair_round, first_of_edge, first_of_node, first_of_shell, opening_position, one_on, edge_count, node_count, shell_count, has_ring};
     ghost use Rattle.code_laws.specs.SeqFault.{is_sound};
     ghost use Rattle.turan_code.specs.TuranView.{code_of_parts, code_of_view};
 
@@ -266,7 +266,7 @@ impl<'a> TuranView<'a> {
         ensures step { result ≡ step (code_of_view self.now) kind p }
         ensures within { result < length (code_of_view self.now).a }
         ensures some_steps { steps.old + 1 ≤ steps.new }
-        ensures cost { steps.new ≤ steps.old + 10 * digits (length (code_of_view self.now).a + 2) + 70 }
+        ensures cost { steps.new ≤ steps.old + 9 * digits (length (code_of_view self.now).a + 2) + 65 }
     {
         let over = self.over(kind, p, steps);
         self.after(over, steps)
@@ -279,7 +279,7 @@ impl<'a> TuranView<'a> {
         ensures within { result < length (code_of_view self.now).a }
         ensures undone { step (code_of_view self.now) kind result ≡ p }
         ensures some_steps { steps.old + 1 ≤ steps.new }
-        ensures cost { steps.new ≤ steps.old + 10 * digits (length (code_of_view self.now).a + 2) + 70 }
+        ensures cost { steps.new ≤ steps.old + 9 * digits (length (code_of_view self.now).a + 2) + 65 }
     {
         let before = self.before(p, steps);
         self.over(kind, before, steps)
@@ -301,7 +301,7 @@ impl<'a> TuranView<'a> {
         ensures mate { result ≡ mate (code_of_view self.now) p }
         ensures within { result < length (code_of_view self.now).a }
         ensures some_steps { steps.old + 1 ≤ steps.new }
-        ensures cost { steps.new ≤ steps.old + 8 * digits (length (code_of_view self.now).a + 2) + 64 }
+        ensures cost { steps.new ≤ steps.old + 7 * digits (length (code_of_view self.now).a + 2) + 61 }
     {
         let kind = self.is_tree(p, steps);
         self.mate_of_kind(kind, p, steps)
@@ -314,7 +314,7 @@ impl<'a> TuranView<'a> {
         ensures turn { result ≡ turn (code_of_view self.now) p }
         ensures within { result < length (code_of_view self.now).a }
         ensures some_steps { steps.old + 1 ≤ steps.new }
-        ensures cost { steps.new ≤ steps.old + 10 * digits (length (code_of_view self.now).a + 2) + 70 }
+        ensures cost { steps.new ≤ steps.old + 9 * digits (length (code_of_view self.now).a + 2) + 65 }
     {
         self.step(true, p, steps)
     }
@@ -326,7 +326,7 @@ impl<'a> TuranView<'a> {
         ensures next { result ≡ next (code_of_view self.now) p }
         ensures within { result < length (code_of_view self.now).a }
         ensures some_steps { steps.old + 1 ≤ steps.new }
-        ensures cost { steps.new ≤ steps.old + 10 * digits (length (code_of_view self.now).a + 2) + 70 }
+        ensures cost { steps.new ≤ steps.old + 9 * digits (length (code_of_view self.now).a + 2) + 65 }
     {
         self.step(false, p, steps)
     }
@@ -338,7 +338,7 @@ impl<'a> TuranView<'a> {
         ensures within { result < length (code_of_view self.now).a }
         ensures undone { turn (code_of_view self.now) result ≡ p }
         ensures some_steps { steps.old + 1 ≤ steps.new }
-        ensures cost { steps.new ≤ steps.old + 10 * digits (length (code_of_view self.now).a + 2) + 70 }
+        ensures cost { steps.new ≤ steps.old + 9 * digits (length (code_of_view self.now).a + 2) + 65 }
     {
         self.step_back(true, p, steps)
     }
@@ -350,7 +350,7 @@ impl<'a> TuranView<'a> {
         ensures within { result < length (code_of_view self.now).a }
         ensures undone { next (code_of_view self.now) result ≡ p }
         ensures some_steps { steps.old + 1 ≤ steps.new }
-        ensures cost { steps.new ≤ steps.old + 10 * digits (length (code_of_view self.now).a + 2) + 70 }
+        ensures cost { steps.new ≤ steps.old + 9 * digits (length (code_of_view self.now).a + 2) + 65 }
     {
         self.step_back(false, p, steps)
     }
@@ -400,7 +400,7 @@ impl<'a> TuranView<'a> {
         ensures node { result ≡ node_of (code_of_view self.now) p }
         ensures within { result < node_count (code_of_view self.now) }
         ensures some_steps { steps.old + 1 ≤ steps.new }
-        ensures cost { steps.new ≤ steps.old + 6 * digits (length (code_of_view self.now).a + 2) + 64 }
+        ensures cost { steps.new ≤ steps.old + 6 * digits (length (code_of_view self.now).a + 2) + 60 }
     {
         match self.pair_round(true, p, steps) {
             Some(pair) => (self.components() + pair) as u32,
@@ -412,8 +412,9 @@ impl<'a> TuranView<'a> {
     pub fn ring_of<C: Ledger>(&self, p: usize, steps: &mut Steps<C>) -> RingNumber
         requires { p < length (code_of_view self.now).a }
         ensures ring { result ≡ ring_of (code_of_view self.now) p }
+        ensures within { IsTrue (has_ring (code_of_view self.now) result) }
         ensures some_steps { steps.old + 1 ≤ steps.new }
-        ensures cost { steps.new ≤ steps.old + 6 * digits (length (code_of_view self.now).a + 2) + 64 }
+        ensures cost { steps.new ≤ steps.old + 6 * digits (length (code_of_view self.now).a + 2) + 60 }
     {
         match self.pair_round(false, p, steps) {
             Some(pair) => RingNumber::Shell(pair as u32),
@@ -460,6 +461,7 @@ impl<'a> TuranView<'a> {
     /// The first position of an edge, or None where no edge has the number.
     pub fn first_of_edge<C: Ledger>(&self, edge: u32, steps: &mut Steps<C>) -> Option<usize>
         ensures position { result ≡ first_of_edge (code_of_view self.now) edge }
+        ensures within { IfSome result (λ p. p < length (code_of_view self.now).a) }
         ensures none { IsNone result ↔ (edge_count (code_of_view self.now) ≤ edge) }
         ensures some_steps { steps.old + 1 ≤ steps.new }
         ensures cost { steps.new ≤ steps.old + 6 * digits (length (code_of_view self.now).a + 2) + 24 }
@@ -476,6 +478,7 @@ impl<'a> TuranView<'a> {
     /// The first position that leaves a node, or None where no node has the number.
     pub fn first_of_node<C: Ledger>(&self, node: u32, steps: &mut Steps<C>) -> Option<usize>
         ensures position { result ≡ first_of_node (code_of_view self.now) node }
+        ensures within { IfSome result (λ p. p < length (code_of_view self.now).a) }
         ensures none { IsNone result ↔ (node_count (code_of_view self.now) ≤ node) }
         ensures some_steps { steps.old + 1 ≤ steps.new }
         ensures cost { steps.new ≤ steps.old + 6 * digits (length (code_of_view self.now).a + 2) + 24 }
@@ -492,6 +495,7 @@ impl<'a> TuranView<'a> {
     /// The first position of a shell, or None where no shell has the number.
     pub fn first_of_shell<C: Ledger>(&self, shell: u32, steps: &mut Steps<C>) -> Option<usize>
         ensures position { result ≡ first_of_shell (code_of_view self.now) shell }
+        ensures within { IfSome result (λ p. p < length (code_of_view self.now).a) }
         ensures none { IsNone result ↔ (shell_count (code_of_view self.now) ≤ shell) }
         ensures some_steps { steps.old + 1 ≤ steps.new }
         ensures cost { steps.new ≤ steps.old + 6 * digits (length (code_of_view self.now).a + 2) + 24 }
@@ -502,9 +506,10 @@ impl<'a> TuranView<'a> {
     /// The first position of a component, or None where no component has the number.
     pub fn start_of<C: Ledger>(&self, component: u32, steps: &mut Steps<C>) -> Option<usize>
         ensures start { IfSome result (λ p. p ≡ start_of (code_of_view self.now) component) }
+        ensures within { IfSome result (λ p. p < length (code_of_view self.now).a) }
         ensures none { IsNone result ↔ (component_count (code_of_view self.now) ≤ component) }
         ensures grows { steps.old ≤ steps.new }
-        ensures cost { steps.new ≤ steps.old + 6 * digits (length (code_of_view self.now).a + 2) + 24 }
+        ensures cost { steps.new ≤ steps.old + 2 }
     {
         let component = component as usize;
         if component < self.components() {
