@@ -40,12 +40,16 @@ fn image_of(alloc: Global, ids: &[IdNumber]) -> Result<Image, Fail>
 }
 
 /// The names of an image, or the first fault. None where its sizes do not fit.
-fn open<'a, C: Ledger>(image: &'a Image, blank: Blank) -> Option<Result<NamesView<'a>, u64>>
+fn open<'a, C: Ledger>(
+    alloc: Global,
+    image: &'a Image,
+    blank: Blank,
+) -> Option<Result<NamesView<'a>, u64>>
     requires name { blank.name ≡ C.name }
     requires parts { blank.parts ≡ C.parts }
     requires some { 0 < blank.parts }
 {
-    let mut steps = Steps::<C>::new(blank);
+    let mut steps = Steps::<C>::new(alloc, blank);
     let id_words = WordView::new(image.ids.as_slice())?;
     let order_words = WordView::new(image.order.as_slice())?;
     if image.count > 16777216 {
@@ -64,12 +68,12 @@ fn open<'a, C: Ledger>(image: &'a Image, blank: Blank) -> Option<Result<NamesVie
 }
 
 /// Whether these are the ids by number, each found.
-fn has_ids<C: Ledger>(names: NamesView<'_>, ids: &[IdNumber], blank: Blank) -> bool
+fn has_ids<C: Ledger>(alloc: Global, names: NamesView<'_>, ids: &[IdNumber], blank: Blank) -> bool
     requires name { blank.name ≡ C.name }
     requires parts { blank.parts ≡ C.parts }
     requires some { 0 < blank.parts }
 {
-    let mut steps = Steps::<C>::new(blank);
+    let mut steps = Steps::<C>::new(alloc, blank);
     if names.count() != ids.len() {
         return false;
     }
@@ -83,30 +87,36 @@ fn has_ids<C: Ledger>(names: NamesView<'_>, ids: &[IdNumber], blank: Blank) -> b
 }
 
 /// The number that has this id.
-fn found<C: Ledger>(names: NamesView<'_>, id: IdNumber, blank: Blank) -> Option<usize>
+fn found<C: Ledger>(
+    alloc: Global,
+    names: NamesView<'_>,
+    id: IdNumber,
+    blank: Blank,
+) -> Option<usize>
     requires name { blank.name ≡ C.name }
     requires parts { blank.parts ≡ C.parts }
     requires some { 0 < blank.parts }
 {
-    let mut steps = Steps::<C>::new(blank);
+    let mut steps = Steps::<C>::new(alloc, blank);
     names.number_of(id, &mut steps)
 }
 
-/// The first fault of one or two names. None where there is none.
+/// What `check` says of one or two names. None where their sizes do not fit.
 fn fault(
     alloc: Global,
     count: usize,
     id_words: u64,
     order_words: u64,
-) -> Result<Option<u64>, Fail> {
+) -> Result<Option<Result<(), u64>>, Fail> {
     let image = Image {
         count,
         ids: bytes_of(alloc, &[id_words])?,
         order: bytes_of(alloc, &[order_words])?,
     };
-    match open::<Brand>(&image, Blank::new(1)) {
-        Some(Err(place)) => Ok(Some(place)),
-        _ => Ok(None),
+    match open::<Brand>(alloc, &image, Blank::new(1)) {
+        Some(Err(place)) => Ok(Some(Err(place))),
+        Some(Ok(_)) => Ok(Some(Ok(()))),
+        None => Ok(None),
     }
 }
 
@@ -117,34 +127,40 @@ fn three_names_are_ordered_and_found(rt: HostRuntime) -> Result<(), Fail> {
     assert_eq!(rt; words.ids.as_slice(), [(1 << 32) + 2, 3].as_slice());
     assert_eq!(rt; words.order.as_slice(), [1, 2].as_slice());
     let image = image_of(rt.alloc(), &ids)?;
-    let Some(Ok(names)) = open::<Brand>(&image, Blank::new(1)) else {
+    let Some(Ok(names)) = open::<Brand>(rt.alloc(), &image, Blank::new(1)) else {
         panic!(rt; "the names are refused");
     };
-    assert!(rt; has_ids::<Brand>(names, &ids, Blank::new(1)));
-    assert_eq!(rt; found::<Brand>(names, 3, Blank::new(1)), Some(2));
-    assert_eq!(rt; found::<Brand>(names, 4, Blank::new(1)), None);
+    assert!(rt; has_ids::<Brand>(rt.alloc(), names, &ids, Blank::new(1)));
+    assert_eq!(rt;
+        found::<Brand>(rt.alloc(), names, 3, Blank::new(1)),
+        Some(2)
+    );
+    assert_eq!(rt; found::<Brand>(rt.alloc(), names, 4, Blank::new(1)), None);
     Ok(())
 }
 
 #[test]
 fn no_names_find_nothing(rt: HostRuntime) -> Result<(), Fail> {
     let image = image_of(rt.alloc(), &[])?;
-    let Some(Ok(names)) = open::<Brand>(&image, Blank::new(1)) else {
+    let Some(Ok(names)) = open::<Brand>(rt.alloc(), &image, Blank::new(1)) else {
         panic!(rt; "the names are refused");
     };
     assert_eq!(rt; names.count(), 0);
-    assert_eq!(rt; found::<Brand>(names, 1, Blank::new(1)), None);
+    assert_eq!(rt; found::<Brand>(rt.alloc(), names, 1, Blank::new(1)), None);
     Ok(())
 }
 
 #[test]
 fn one_name_of_the_greatest_id_is_found(rt: HostRuntime) -> Result<(), Fail> {
     let image = image_of(rt.alloc(), &[LARGEST_ID])?;
-    let Some(Ok(names)) = open::<Brand>(&image, Blank::new(1)) else {
+    let Some(Ok(names)) = open::<Brand>(rt.alloc(), &image, Blank::new(1)) else {
         panic!(rt; "the names are refused");
     };
-    assert!(rt; has_ids::<Brand>(names, &[LARGEST_ID], Blank::new(1)));
-    assert_eq!(rt; found::<Brand>(names, LARGEST_ID - 1, Blank::new(1)), None);
+    assert!(rt; has_ids::<Brand>(rt.alloc(), names, &[LARGEST_ID], Blank::new(1)));
+    assert_eq!(rt;
+        found::<Brand>(rt.alloc(), names, LARGEST_ID - 1, Blank::new(1)),
+        None
+    );
     Ok(())
 }
 
@@ -152,13 +168,13 @@ fn one_name_of_the_greatest_id_is_found(rt: HostRuntime) -> Result<(), Fail> {
 fn falling_ids_are_found(rt: HostRuntime) -> Result<(), Fail> {
     let ids = [50, 40, 30, 20, 10];
     let image = image_of(rt.alloc(), &ids)?;
-    let Some(Ok(names)) = open::<Brand>(&image, Blank::new(1)) else {
+    let Some(Ok(names)) = open::<Brand>(rt.alloc(), &image, Blank::new(1)) else {
         panic!(rt; "the names are refused");
     };
-    assert!(rt; has_ids::<Brand>(names, &ids, Blank::new(1)));
-    assert_eq!(rt; found::<Brand>(names, 5, Blank::new(1)), None);
-    assert_eq!(rt; found::<Brand>(names, 35, Blank::new(1)), None);
-    assert_eq!(rt; found::<Brand>(names, 55, Blank::new(1)), None);
+    assert!(rt; has_ids::<Brand>(rt.alloc(), names, &ids, Blank::new(1)));
+    assert_eq!(rt; found::<Brand>(rt.alloc(), names, 5, Blank::new(1)), None);
+    assert_eq!(rt; found::<Brand>(rt.alloc(), names, 35, Blank::new(1)), None);
+    assert_eq!(rt; found::<Brand>(rt.alloc(), names, 55, Blank::new(1)), None);
     Ok(())
 }
 
@@ -167,25 +183,29 @@ fn each_kind_of_fault_is_named(rt: HostRuntime) -> Result<(), Fail> {
     let alloc = rt.alloc();
     assert_eq!(rt;
         fault(alloc, 1, 7, 1)?,
-        Some(0),
+        Some(Err(0)),
         "a number that there isn't"
     );
-    assert_eq!(rt; fault(alloc, 1, 0, 0)?, Some(0), "an id of 0");
+    assert_eq!(rt; fault(alloc, 1, 0, 0)?, Some(Err(0)), "an id of 0");
     assert_eq!(rt;
         fault(alloc, 1, 1 << 31, 0)?,
-        Some(0),
+        Some(Err(0)),
         "an id above the greatest"
     );
     assert_eq!(rt;
         fault(alloc, 2, (1 << 32) + 2, 1 << 32)?,
-        Some(1),
+        Some(Err(1)),
         "a falling id"
     );
     assert_eq!(rt;
         fault(alloc, 2, (1 << 32) + 1, 1 << 32)?,
-        Some(1),
+        Some(Err(1)),
         "an id twice"
     );
-    assert_eq!(rt; fault(alloc, 2, (1 << 32) + 2, 1)?, None, "no fault");
+    assert_eq!(rt;
+        fault(alloc, 2, (1 << 32) + 2, 1)?,
+        Some(Ok(())),
+        "no fault"
+    );
     Ok(())
 }
