@@ -24,6 +24,10 @@ writer_faults sink = sink.fault_count
 abbrev pub file_faults : {R File Dir : Type 0} → FileShelf R File Dir → ℕ
 file_faults shelf = shelf.fault_count
 
+-- how many writes failed
+abbrev pub file_write_faults : {R File Dir : Type 0} → FileShelf R File Dir → ℕ
+file_write_faults shelf = shelf.write_fault_count
+
 -- how many reads asked for a file that isn't there
 abbrev pub file_misses : {R File Dir : Type 0} → FileShelf R File Dir → ℕ
 file_misses shelf = shelf.miss_count

@@ -1,5 +1,5 @@
 -- What the outside holds and gives, where it tells.
-use Rattle.std.specs.Prelude.{◌≡◌, ℕ, ◌+◌, ◌-◌, ◌^◌, ◌<◌, ◌≤◌, min, List, [], ◌++◌, length, take, drop, Option, None, Some, ⊤, IfSome}
+use Rattle.std.specs.Prelude.{◌≡◌, ◌≢◌, ◌⊎◌, ℕ, ◌+◌, ◌-◌, ◌^◌, ◌<◌, ◌≤◌, min, List, [], ◌++◌, length, take, drop, Option, None, Some, Result, ⊤, IfSome, OnOk, OnErr}
 use Rattle.std.specs.Io.KnownBytes.{Appends}
 
 -- the bytes of each name that is held
@@ -41,3 +41,35 @@ IsPartAt (Some files) name at room part = (bytes : List ℕ) × (files name ≡ 
 abbrev pub IsReadToEnd : Option (List ℕ) → Option (List ℕ) → Type 0
 IsReadToEnd None after = ⊤
 IsReadToEnd (Some before) after = after ≡ Some []
+
+-- this holds of the files before and after a call, where they are told; files that are told stay so
+abbrev pub WhereTold : (Files → Files → Type 0) → Option Files → Option Files → Type 0
+WhereTold P None after = ⊤
+WhereTold P (Some before) None = ⊥
+WhereTold P (Some before) (Some after) = P before after
+
+-- all names but this one are as they were
+abbrev pub OthersStay : List ℕ → Files → Files → Type 0
+OthersStay name before after = (other : List ℕ) → other ≢ name → after other ≡ before other
+
+-- the name holds the empty list
+abbrev pub IsStarted : List ℕ → Files → Files → Type 0
+IsStarted name before after = after name ≡ Some []
+
+-- the name holds what it held, or nothing, or the empty list
+abbrev pub IsStartedAtMost : List ℕ → Files → Files → Type 0
+IsStartedAtMost name before after = (after name ≡ before name) ⊎ (after name ≡ None) ⊎ (after name ≡ Some [])
+
+-- the name holds what it held, and these bytes behind it
+abbrev pub IsExtended : List ℕ → List ℕ → Files → Files → Type 0
+IsExtended name bytes before after = (held : List ℕ) × (before name ≡ Some held) × (after name ≡ Some (held ++ bytes))
+
+-- the name holds what it held, and some bytes at the front of these behind it
+abbrev pub IsExtendedInPart : List ℕ → List ℕ → Files → Files → Type 0
+IsExtendedInPart name bytes before after = (part : List ℕ) × (rest : List ℕ) × (part ++ rest ≡ bytes) × IsExtended name part before after
+
+-- the count of failed writes stays where a write succeeds, rises where it fails, and never falls
+pub record CountsWrite {X E : Type 0} (result : Result X E) (before after : ℕ) : Type 0 where
+  pub stays : OnOk result (after ≡ before)
+  pub rises : OnErr result (Rose before after)
+  pub never_falls : before ≤ after

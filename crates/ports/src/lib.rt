@@ -7,6 +7,7 @@
 
 mod failing_calls;
 mod file_shelf;
+mod kept_file;
 mod memory_shelf;
 mod memory_sink;
 mod memory_source;

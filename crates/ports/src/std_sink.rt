@@ -67,7 +67,7 @@ impl<W: Write + Drop> Sink for StdSink<W> {
 }
 
 /// Writes until the bytes are out, and answers whether they all went.
-fn write_out<W: Write>(writer: &mut W, bytes: &[u8]) -> bool
+pub(crate) fn write_out<W: Write>(writer: &mut W, bytes: &[u8]) -> bool
     ensures all { IsTrue result → Appends (W.contents writer.old) (W.contents writer.new) bytes.now }
     ensures part { IsFalse result → GainsPart (W.contents writer.old) (W.contents writer.new) bytes.now }
 {

@@ -13,6 +13,10 @@ const FILE: &str = "ports_test_folder/edge.csv";
 
 const INNER_FOLDER: &str = "ports_test_folder/inner";
 
+const WRITTEN_FOLDER: &str = "ports_test_written";
+
+const WRITTEN: &str = "ports_test_written/map.pemb";
+
 #[test]
 fn file_shelf_reads_in_pieces_and_tells_missing_from_failed(rt: HostRuntime) -> Result<(), Fail> {
     let _ = fs::remove_dir_all(&rt, FOLDER);
@@ -43,6 +47,34 @@ fn file_shelf_reads_in_pieces_and_tells_missing_from_failed(rt: HostRuntime) -> 
         Err(ShelfFault::Failed)
     );
     fs::remove_dir_all(&rt, FOLDER)?;
+    Ok(())
+}
+
+#[test]
+fn file_shelf_writes_in_pieces_and_fails_where_no_file_can_be(rt: HostRuntime) -> Result<(), Fail> {
+    let _ = fs::remove_dir_all(&rt, WRITTEN_FOLDER);
+    fs::create_dir(&rt, WRITTEN_FOLDER)?;
+    fs::write(&rt, WRITTEN, b"an older and longer text".as_slice())?;
+
+    let mut shelf = FileShelf::new(&rt);
+    assert_eq!(rt; shelf.start(WRITTEN), Ok(()));
+    assert_eq!(rt; shelf.append(WRITTEN, b"PEMB"), Ok(()));
+    assert_eq!(rt; shelf.append(WRITTEN, b""), Ok(()));
+    assert_eq!(rt; shelf.append(WRITTEN, b"0001"), Ok(()));
+    let mut buffer = [0u8; 5];
+    assert_eq!(rt; shelf.read_at(WRITTEN, 0, &mut buffer), Ok(5));
+    assert_eq!(rt; buffer.as_slice(), b"PEMB0".as_slice());
+    assert_eq!(rt; shelf.append(WRITTEN, b"2"), Ok(()));
+    assert_eq!(rt; shelf.read_at(WRITTEN, 5, &mut buffer), Ok(4));
+    assert_eq!(rt; buffer.as_slice(), b"00120".as_slice());
+    assert_eq!(rt; shelf.read_at(WRITTEN, 9, &mut buffer), Ok(0));
+
+    let no_folder = "ports_test_written/none/map.pemb";
+    assert_eq!(rt; shelf.start(no_folder), Err(Failed));
+    assert_eq!(rt; shelf.append(no_folder, b"PEMB"), Err(Failed));
+    assert_eq!(rt; shelf.start(WRITTEN_FOLDER), Err(Failed));
+    assert_eq!(rt; shelf.append(WRITTEN_FOLDER, b"PEMB"), Err(Failed));
+    fs::remove_dir_all(&rt, WRITTEN_FOLDER)?;
     Ok(())
 }
 
@@ -106,4 +138,28 @@ fn memory_shelf_replaces_one_name_and_keeps_the_other(rt: HostRuntime) -> Result
     );
     assert_eq!(rt; shelf.read_at("node.csv", 8, &mut buffer), Ok(0));
     Ok(())
+}
+
+#[test]
+fn memory_shelf_gives_back_the_bytes_of_a_name(rt: HostRuntime) -> Result<(), Fail> {
+    let mut shelf = MemoryShelf::new(rt.alloc(), &[]);
+    shelf.add("map.pemb", b"PEMB")?;
+    assert!(rt; matches!(shelf.file("map.pemb"), Some(b"PEMB")));
+    assert!(rt; shelf.file("map").is_none());
+    Ok(())
+}
+
+#[test]
+fn memory_shelf_keeps_half_of_a_failing_append(rt: HostRuntime) {
+    let mut shelf = MemoryShelf::new(rt.alloc(), &[1, 4]);
+    assert_eq!(rt; shelf.start("map.pemb"), Err(Failed));
+    assert!(rt; shelf.file("map.pemb").is_none());
+    if shelf.start("map.pemb").is_ok() {
+        let _ = shelf.append("map.pemb", b"abc");
+        let _ = shelf.append("map.pemb", b"defgh");
+        let _ = shelf.append("map.pemb", b"ij");
+        assert!(rt; matches!(shelf.file("map.pemb"), Some(b"abcdeij")));
+        assert_eq!(rt; shelf.start("map.pemb"), Ok(()));
+        assert!(rt; matches!(shelf.file("map.pemb"), Some(b"")));
+    }
 }
