@@ -3,22 +3,21 @@ use Rattle.std.proofs.Common.{◌≡◌, ℕ, zero, suc, ◌+◌, ◌<◌, ◌�
 use Rattle.std.specs.Prelude.{slice_get}
 use Rattle.std.specs.List.{list_all}
 use Rattle.std.proofs.lemmas.Bool.{eqb-true, and_parts, and_from, or_cases, cases_Bool, cases_lt, or_left, both_ways, not-true}
+use Rattle.orbits.proofs.Lists.{in_filter, from_filter, pigeon, in_either, in_front, in_back, same_tests, any_from, all_from as edges_all}
+use Rattle.plane_model.proofs.SetLaws.{same_edges}
 use Rattle.plane_model.specs.Rows.{Rows}
 use Rattle.plane_model.specs.Sets.{has, has_edge, is_distinct}
 use Rattle.plane_model.specs.PlaneMap.{PlaneMap, map_of, side, rings, signed_edges}
 use Rattle.plane_model.specs.Component.{component, components}
 use Rattle.plane_model.specs.Faces.{of_components, reached_through, outer_rings, is_outer, is_reached, is_on_ring, is_placed}
-use Rattle.plane_model.proofs.Closed.{in_filter, from_filter}
-use Rattle.plane_model.proofs.Returns.{pigeon}
-use Rattle.plane_model.proofs.Rounds.{through, in_either, in_front, in_back, in_component, from_sides}
+use Rattle.plane_model.proofs.Rounds.{through, in_component, from_sides}
 use Rattle.plane_model.proofs.OuterRings.{has_side, Shells, shells_found, shells-length, rings_enough}
 use Rattle.plane_model.proofs.OneOuterRing.{faces_apart, face_not_0}
 use Rattle.plane_model.proofs.Sorting.{all_from}
-use Rattle.plane_model.proofs.FaultParts.{same_tests}
 use Rattle.placement_laws.specs.Placing.{IsLabelledRotation, IsPlacing}
 use Rattle.placement_laws.proofs.Parts.{HasParts, parts_of, component_within, component_self, component_sub, ring_name, ring_name-on, ring_name-there, ring_component, ring_side, components-signed, rings-signed, rings-apart}
 use Rattle.placement_laws.proofs.Tables.{face_0_none}
-use Rattle.placement_laws.proofs.Lists.{edge_any, edges_all, place_has, place_of}
+use Rattle.placement_laws.proofs.Lists.{place_has, place_of}
 use Rattle.placement_laws.proofs.Placed.{Whose, next_whose, begin_whose}
 use Rattle.placement_laws.proofs.Found.{start_one, placing-many}
 
@@ -44,11 +43,11 @@ spreads m g starts p front reached outer now d e h on =
 reached_now : (m : PlaneMap) (front : List ℕ) (reached : List ℤ) (r : ℤ) → has_edge (rings m) r ≡ true → (has front (side m r) ≡ true) ⊎ (has_edge reached r ≡ true) → has_edge (reached ++ of_components m (through m front reached)) r ≡ true
 unfolding through
 reached_now m front reached r h either = elim either [
-  | inr old ↦ in_front reached (of_components m (through m front reached)) r old
+  | inr old ↦ in_front same_edges reached (of_components m (through m front reached)) r old
   | inl on ↦ elim (cases_Bool (has_edge reached r)) [
-    | inl old ↦ in_front reached (of_components m (through m front reached)) r old
-    | inr fresh ↦ in_back reached (of_components m (through m front reached)) r
-        (in_component m (through m front reached) r r (in_filter (λ r. has front (side m r) && not (has_edge reached r)) (rings m) r (and_from (has front (side m r)) (not (has_edge reached r)) on (rw fresh refl)) h)
+    | inl old ↦ in_front same_edges reached (of_components m (through m front reached)) r old
+    | inr fresh ↦ in_back same_edges reached (of_components m (through m front reached)) r
+        (in_component m (through m front reached) r r (in_filter same_edges (λ r. has front (side m r) && not (has_edge reached r)) (rings m) r (and_from (has front (side m r)) (not (has_edge reached r)) on (rw fresh refl)) h)
         (component_self m r (rings-signed m r h)))
   ]
 ]
@@ -87,27 +86,27 @@ next_reaches m g starts p none_0 front reached outer now =
     let new = through m front reached in
     let test : ℤ → Bool = λ r. has front (side m r) && not (has_edge reached r) in
     record {
-      only = λ r h. elim (in_either outer new r h) [
+      only = λ r h. elim (in_either same_edges outer new r h) [
         | inl was ↦ now.only r was
         | inr on ↦
-            let it = from_filter test (rings m) r on in
+            let it = from_filter same_edges test (rings m) r on in
             let parts = and_parts (has front (side m r)) (not (has_edge reached r)) it.0 in
             only_starts m g starts p none_0 front reached outer now r it.1 parts.0 (not-true _ parts.1)
       ];
       whose = next_whose m front reached outer now.whose;
-      covers = λ r d h k. elim (in_either outer new r h) [
-        | inl was ↦ in_front reached (of_components m new) d (now.covers r d was k)
-        | inr on ↦ in_back reached (of_components m new) d (in_component m new r d on k)
+      covers = λ r d h k. elim (in_either same_edges outer new r h) [
+        | inl was ↦ in_front same_edges reached (of_components m new) d (now.covers r d was k)
+        | inr on ↦ in_back same_edges reached (of_components m new) d (in_component m new r d on k)
       ];
-      known = λ f h. let d = from_sides m (of_components m new) f h in inr (d.0, in_back reached (of_components m new) d.0 d.1, d.2);
+      known = λ f h. let d = from_sides m (of_components m new) f h in inr (d.0, in_back same_edges reached (of_components m new) d.0 d.1, d.2);
       on_0 = λ r h z. inr (reached_now m front reached r h (now.on_0 r h z));
-      on_known = λ d r h k e. elim (in_either reached (of_components m new) d h) [
+      on_known = λ d r h k e. elim (in_either same_edges reached (of_components m new) d h) [
         | inl old ↦ inr (reached_now m front reached r k (now.on_known d r old k e))
         | inr fresh ↦ inl (subst (λ f. has (map (side m) (of_components m new)) f ≡ true) (sym e) (has_side m (of_components m new) d fresh))
       ];
-      passed = λ o r h k e. elim (in_either outer new o h) [
-        | inl was ↦ in_front reached (of_components m new) r (now.passed o r was k e)
-        | inr on ↦ reached_now m front reached r k (inl (subst (λ f. has front f ≡ true) (sym e) (and_parts (has front (side m o)) (not (has_edge reached o)) (from_filter test (rings m) o on).0).0))
+      passed = λ o r h k e. elim (in_either same_edges outer new o h) [
+        | inl was ↦ in_front same_edges reached (of_components m new) r (now.passed o r was k e)
+        | inr on ↦ reached_now m front reached r k (inl (subst (λ f. has front f ≡ true) (sym e) (and_parts (has front (side m o)) (not (has_edge reached o)) (from_filter same_edges test (rings m) o on).0).0))
       ];
     }
 
@@ -126,7 +125,7 @@ finish m g starts p none_0 (suc n) front reached outer now k long done =
     let new = through m front reached in
     let more = finish m g starts p none_0 n (map (side m) (of_components m new)) (reached ++ of_components m new) (outer ++ new) (next_reaches m g starts p none_0 front reached outer now) (suc k) (omega arith)
     (λ j r lt at. elim (cases_lt j k) [
-      | inl less ↦ in_front reached (of_components m new) r (done j r less at)
+      | inl less ↦ in_front same_edges reached (of_components m new) r (done j r less at)
       | inr le ↦
           let is : j ≡ k = omega arith in
           let h = p.among r (place_has starts j r at) in
@@ -178,16 +177,16 @@ placing-rings m g faces_apart not_0 starts p same =
     let r = p.each q.0 (rings-signed m q.0 q.1) in
     (r.0, q.0, same r.0 ∙ r.1, r.2, q.3)) in
     let few = rings_enough m s in
-    let many = pigeon (rings m) (outer_rings m ++ s.shells) (rings-apart m g) (λ r h. elim (cases_Bool (has_edge starts r)) [
-      | inl on ↦ in_front (outer_rings m) s.shells r (same r ∙ on)
+    let many = pigeon same_edges (rings m) (outer_rings m ++ s.shells) (rings-apart m g) (λ r h. elim (cases_Bool (has_edge starts r)) [
+      | inl on ↦ in_front same_edges (outer_rings m) s.shells r (same r ∙ on)
       | inr other ↦
           let q = from_sides m s.shells (side m r) (subst (λ fs. has fs (side m r) ≡ true) (sym s.sides) (p.faced r h other)) in
           let there = s.among q.0 q.1 in
-          in_back (outer_rings m) s.shells r (subst (λ z. has_edge s.shells z ≡ true) (p.one_shell q.0 r there.0 (sym (same q.0) ∙ there.1) h other q.2) q.1)
+          in_back same_edges (outer_rings m) s.shells r (subst (λ z. has_edge s.shells z ≡ true) (p.one_shell q.0 r there.0 (sym (same q.0) ∙ there.1) h other q.2) q.1)
     ]) in
     let long = shells-length m s in
-    let a = pigeon (outer_rings m) starts s.outer_apart (λ r h. sym (same r) ∙ h) in
-    let b = pigeon starts (outer_rings m) p.apart (λ r h. same r ∙ h) in
+    let a = pigeon same_edges (outer_rings m) starts s.outer_apart (λ r h. sym (same r) ∙ h) in
+    let b = pigeon same_edges starts (outer_rings m) p.apart (λ r h. same r ∙ h) in
     omega arith
 
 pub outer_of : (t : Rows) (starts : List ℤ) → IsLabelledRotation t → IsPlacing (map_of t) starts → (r : ℤ) → is_outer (map_of t) r ≡ has_edge starts r
@@ -203,10 +202,10 @@ placed_of t starts h p =
     let all = placing-rings m g (faces_apart t h.faces) (face_not_0 t) starts p (outer_of t starts h p) in
     and_from (list_all (is_reached m) (components m) && list_all (is_on_ring m) m.faces) (length (rings m) == length m.faces + length (components m))
     (and_from (list_all (is_reached m) (components m)) (list_all (is_on_ring m) m.faces)
-    (edges_all (is_reached m) (components m) (λ c k.
+    (edges_all same_edges (is_reached m) (components m) (λ c k.
     let r = p.each c (components-signed m c k) in
-    edge_any (λ r. has_edge (component m r) c) (outer_rings m) r.0 (outer_of t starts h p r.0 ∙ r.1) r.2))
+    any_from same_edges (λ r. has_edge (component m r) c) (outer_rings m) r.0 (outer_of t starts h p r.0 ∙ r.1) r.2))
     (all_from (is_on_ring m) m.faces (λ f k.
     let q = p.shells f k in
-    edge_any (λ d. side m d == f) (signed_edges m) q.0 (rings-signed m q.0 q.1) (eq-eqb (side m q.0) f q.3))))
+    any_from same_edges (λ d. side m d == f) (signed_edges m) q.0 (rings-signed m q.0 q.1) (eq-eqb (side m q.0) f q.3))))
     (eq-eqb (length (rings m)) (length m.faces + length (components m)) (omega arith))

@@ -3,16 +3,14 @@ use Rattle.std.proofs.Common.{◌≡◌, ℕ, zero, suc, ◌<◌, ◌≤◌, ◌
 use Rattle.std.proofs.lemmas.Bool.{and_parts, and_from, or_cases, cases_Bool, or_left, or_right, both_ways, not-true, false_from_ne_true, and_right}
 use Rattle.std.proofs.lemmas.List.Sums.{count_by-le-length, length-filter}
 use Rattle.topo_base.specs.SignedEdge.{same_edge}
+use Rattle.orbits.proofs.Lists.{in_filter, from_filter, pigeon, in_either, in_front, in_back, apart_kept}
 use Rattle.plane_model.specs.Sets.{has, has_edge}
 use Rattle.plane_model.specs.PlaneMap.{PlaneMap, side, rings}
 use Rattle.plane_model.specs.Component.{component, components}
 use Rattle.plane_model.specs.Faces.{of_components, reached_through, outer_rings}
 use Rattle.placement_laws.specs.PlacedSoFar.{unreached, round_starts, IsPlacedSoFar, IsNextFront}
-use Rattle.plane_model.proofs.SetLaws.{same_is, same_self}
-use Rattle.plane_model.proofs.Closed.{in_filter, from_filter}
-use Rattle.plane_model.proofs.Returns.{pigeon}
-use Rattle.plane_model.proofs.Rounds.{in_either, in_front, in_back, in_component, from_component}
-use Rattle.plane_model.proofs.RotationOrbits.{apart_kept}
+use Rattle.plane_model.proofs.SetLaws.{same_is, same_self, same_edges}
+use Rattle.plane_model.proofs.Rounds.{in_component, from_component}
 use Rattle.placement_laws.proofs.Parts.{HasParts, component_self, component_sub, component_sym, component_name, component_name-in, component_name-there, components-apart, rings-signed}
 
 of_components-append : (m : PlaneMap) (xs ys : List ℤ) → of_components m (xs ++ ys) ≡ of_components m xs ++ of_components m ys
@@ -63,7 +61,7 @@ fewer_left m g starts new among r h on fresh =
     let c = component_name m r in
     let on_c = component_name-in m r hr in
     let later : (x : ℤ) → has_edge (of_components m starts) x ≡ true → has_edge (of_components m (starts ++ new)) x ≡ true = λ x k.
-    let s = from_component m starts x k in in_component m (starts ++ new) s.0 x (in_front starts new s.0 s.1) s.2 in
+    let s = from_component m starts x k in in_component m (starts ++ new) s.0 x (in_front same_edges starts new s.0 s.1) s.2 in
     let weaker : (x : ℤ) → p x ≡ true → q x ≡ true = λ x k.
     elim (cases_Bool (has_edge (of_components m starts) x)) [ inl was ↦ absurd (both_ways _ (not-true _ k) (later x was)) | inr none ↦ rw none refl ] in
     let q_c : q c ≡ true = elim (cases_Bool (has_edge (of_components m starts) c)) [
@@ -73,11 +71,11 @@ fewer_left m g starts new among r h on fresh =
       | inr none ↦ rw none refl
     ] in
     let off_c : has_edge (filter p (components m)) c ≡ false = false_from_ne_true (has_edge (filter p (components m)) c) (λ k.
-    both_ways (has_edge (of_components m (starts ++ new)) c) (not-true _ (from_filter p (components m) c k).0) (in_component m (starts ++ new) r c (in_back starts new r on) on_c)) in
-    let most = pigeon (c ∷ filter p (components m)) (filter q (components m)) (rw off_c (apart_kept p (components m) (components-apart m g)))
+    both_ways (has_edge (of_components m (starts ++ new)) c) (not-true _ (from_filter same_edges p (components m) c k).0) (in_component m (starts ++ new) r c (in_back same_edges starts new r on) on_c)) in
+    let most = pigeon same_edges (c ∷ filter p (components m)) (filter q (components m)) (rw off_c (apart_kept same_edges p (components m) (components-apart m g)))
     (λ x k. elim (or_cases (same_edge x c) (has_edge (filter p (components m)) x) k) [
-      | inl is ↦ subst (λ z. has_edge (filter q (components m)) z ≡ true) (sym (same_is x c is)) (in_filter q (components m) c q_c (component_name-there m g r hr))
-      | inr there ↦ let it = from_filter p (components m) x there in in_filter q (components m) x (weaker x it.0) it.1
+      | inl is ↦ subst (λ z. has_edge (filter q (components m)) z ≡ true) (sym (same_is x c is)) (in_filter same_edges q (components m) c q_c (component_name-there m g r hr))
+      | inr there ↦ let it = from_filter same_edges p (components m) x there in in_filter same_edges q (components m) x (weaker x it.0) it.1
     ]) in
     omega arith
 
@@ -100,20 +98,20 @@ one_less m g zero front starts among enough = elim (some_or_none (round_starts m
     subst (λ new. unreached m (starts ++ new) ≤ 0) (sym none) (subst (λ xs. unreached m xs ≤ 0) (sym (append-nil starts)) enough),
   )
   | inr r ↦
-      let it = from_filter (λ r. has front (side m r) && not (has_edge (of_components m starts) r)) (rings m) r.0 r.1 in
+      let it = from_filter same_edges (λ r. has front (side m r) && not (has_edge (of_components m starts) r)) (rings m) r.0 r.1 in
       let less : unreached m (starts ++ round_starts m front starts) < unreached m starts = fewer_left m g starts (round_starts m front starts) among r.0 it.1 r.1 (not-true (has_edge (of_components m starts) r.0) (and_parts (has front (side m r.0)) (not (has_edge (of_components m starts) r.0)) it.0).1) in
       absurd (omega arith)
 ]
 one_less m g (suc left) front starts among enough = elim (some_or_none (round_starts m front starts)) [
   | inl none ↦ (
     suc left,
-    nothing_more m (suc left) front (of_components m starts) (λ r h. false_from_ne_true _ (λ on. both_ways _ (none_among (round_starts m front starts) none r) (in_filter (λ r. has front (side m r) && not (has_edge (of_components m starts) r)) (rings m) r on h)))
+    nothing_more m (suc left) front (of_components m starts) (λ r h. false_from_ne_true _ (λ on. both_ways _ (none_among (round_starts m front starts) none r) (in_filter same_edges (λ r. has front (side m r) && not (has_edge (of_components m starts) r)) (rings m) r on h)))
         ∙ sym (subst (λ new. new ++ reached_through (suc left) m (map (side m) (of_components m new)) (of_components m starts ++ of_components m new) ≡ []) (sym none)
         (nothing_more m (suc left) [] (of_components m starts ++ []) (λ r h. refl))),
     subst (λ new. unreached m (starts ++ new) ≤ suc left) (sym none) (subst (λ xs. unreached m xs ≤ suc left) (sym (append-nil starts)) enough),
   )
   | inr r ↦
-      let it = from_filter (λ r. has front (side m r) && not (has_edge (of_components m starts) r)) (rings m) r.0 r.1 in
+      let it = from_filter same_edges (λ r. has front (side m r) && not (has_edge (of_components m starts) r)) (rings m) r.0 r.1 in
       let less : unreached m (starts ++ round_starts m front starts) < unreached m starts = fewer_left m g starts (round_starts m front starts) among r.0 it.1 r.1 (not-true (has_edge (of_components m starts) r.0) (and_parts (has front (side m r.0)) (not (has_edge (of_components m starts) r.0)) it.0).1) in
       (left, refl, omega arith)
 ]
@@ -123,9 +121,9 @@ round_reaches : (m : PlaneMap) (front : List ℕ) (starts : List ℤ) (r : ℤ) 
 round_reaches m front starts r h on =
     let new = round_starts m front starts in
     elim (cases_Bool (has_edge (of_components m starts) r)) [
-      | inl old ↦ let s = from_component m starts r old in in_component m (starts ++ new) s.0 r (in_front starts new s.0 s.1) s.2
+      | inl old ↦ let s = from_component m starts r old in in_component m (starts ++ new) s.0 r (in_front same_edges starts new s.0 s.1) s.2
       | inr fresh ↦ in_component m (starts ++ new) r r
-          (in_back starts new r (in_filter (λ r. has front (side m r) && not (has_edge (of_components m starts) r)) (rings m) r (and_from (has front (side m r)) (not (has_edge (of_components m starts) r)) on (rw fresh refl)) h))
+          (in_back same_edges starts new r (in_filter same_edges (λ r. has front (side m r) && not (has_edge (of_components m starts) r)) (rings m) r (and_from (has front (side m r)) (not (has_edge (of_components m starts) r)) on (rw fresh refl)) h))
           (component_self m r (rings-signed m r h))
     ]
 
@@ -147,7 +145,7 @@ place_round m g left front entered starts now front' next =
     let reached : (r : ℤ) → has_edge (rings m) r ≡ true → has (front ++ entered) (side m r) ≡ true → has_edge (of_components m (starts ++ new)) r ≡ true = λ r h on.
     elim (has_either front entered (side m r) on) [
       | inl a ↦ round_reaches m front starts r h a
-      | inr b ↦ let s = from_component m starts r (now.reached r h b) in in_component m (starts ++ new) s.0 r (in_front starts new s.0 s.1) s.2
+      | inr b ↦ let s = from_component m starts r (now.reached r h b) in in_component m (starts ++ new) s.0 r (in_front same_edges starts new s.0 s.1) s.2
     ] in
     let sides = map (side m) (of_components m new) in
     let agree : (r : ℤ) → has_edge (rings m) r ≡ true → has_edge (of_components m (starts ++ new)) r ≡ false → has sides (side m r) ≡ has front' (side m r) = λ r h fresh.
@@ -159,7 +157,7 @@ place_round m g left front entered starts now front' next =
             ∙ ap (λ xs. starts ++ (new ++ xs)) (sym (same_front m left' sides front' (of_components m (starts ++ new)) agree) ∙ ap (λ ds. reached_through left' m sides ds) together)
             ∙ ap (λ xs. starts ++ xs) (sym less.1) ∙ now.rest;
         enough = less.2;
-        among = λ r h. elim (in_either starts new r h) [ inl a ↦ now.among r a | inr b ↦ (from_filter _ (rings m) r b).1 ];
+        among = λ r h. elim (in_either same_edges starts new r h) [ inl a ↦ now.among r a | inr b ↦ (from_filter same_edges _ (rings m) r b).1 ];
         reached = reached;
       },
     )

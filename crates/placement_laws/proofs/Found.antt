@@ -2,16 +2,17 @@
 use Rattle.std.proofs.Common.{◌≡◌, ℕ, ◌⊎◌, inl, inr, ℤ, true, false, not, ◌&&◌, ◌==◌, List, map, length, refl, sym, ◌∙◌, subst, arith, eq-eqb, Some, None}
 use Rattle.std.specs.Prelude.{slice_get}
 use Rattle.std.proofs.lemmas.Bool.{eqb-true, and_parts, and_from, cases_Bool, both_ways, not-true, false_from_ne_true}
+use Rattle.orbits.proofs.Lists.{in_map, pigeon, image_back}
+use Rattle.orbits.proofs.Carried.{names_distinct}
+use Rattle.plane_model.proofs.SetLaws.{same_edges}
 use Rattle.plane_model.specs.Sets.{has, has_edge}
 use Rattle.plane_model.specs.PlaneMap.{PlaneMap, side, rings, signed_edges}
 use Rattle.plane_model.specs.Component.{component, components}
 use Rattle.plane_model.specs.Faces.{outer_rings, is_outer, outer_ring}
 use Rattle.plane_model.specs.Lists.{shell}
-use Rattle.plane_model.proofs.Closed.{in_map}
-use Rattle.plane_model.proofs.Returns.{pigeon}
 use Rattle.placement_laws.specs.Placing.{IsPlacing, LiesInEarlier}
 use Rattle.placement_laws.proofs.Parts.{HasParts, component_self, component_sub, component_sym, component_name, component_name-in, component_name-there, components-one, components-signed, components-apart, rings-signed}
-use Rattle.placement_laws.proofs.Lists.{find_one, find_none, place_has, of_map, map_apart, length-map_edges}
+use Rattle.placement_laws.proofs.Lists.{find_one, find_none, place_has, length-map_edges}
 
 -- two starts whose components share a signed edge are one
 pub start_one : (m : PlaneMap) → HasParts m → (starts : List ℤ) → IsPlacing m starts → (d r q : ℤ) → has_edge starts r ≡ true → has_edge (component m r) d ≡ true → has_edge starts q ≡ true → has_edge (component m q) d ≡ true → q ≡ r
@@ -73,15 +74,15 @@ pub placing-many : (m : PlaneMap) → HasParts m → (starts : List ℤ) → IsP
 placing-many m g starts p =
     let names = map (component_name m) starts in
     let signed : (r : ℤ) → has_edge starts r ≡ true → has_edge (signed_edges m) r ≡ true = λ r h. rings-signed m r (p.among r h) in
-    let a = pigeon names (components m)
-    (map_apart (component_name m) starts p.apart (λ r q h k same.
+    let a = pigeon same_edges names (components m)
+    (names_distinct same_edges same_edges (component_name m) starts p.apart (λ r q h k same.
     start_one m g starts p (component_name m r) q r k (subst (λ z. has_edge (component m q) z ≡ true) (sym same) (component_name-in m q (signed q k))) h (component_name-in m r (signed r h))))
-    (λ c h. let r = of_map (component_name m) starts c h in subst (λ z. has_edge (components m) z ≡ true) (sym r.2) (component_name-there m g r.0 (signed r.0 r.1))) in
-    let b = pigeon (components m) names (components-apart m g) (λ c h.
+    (λ c h. let r = image_back same_edges (component_name m) starts c h in subst (λ z. has_edge (components m) z ≡ true) (sym r.2) (component_name-there m g r.0 (signed r.0 r.1))) in
+    let b = pigeon same_edges (components m) names (components-apart m g) (λ c h.
     let r = p.each c (components-signed m c h) in
     let hr = signed r.0 r.1 in
     let name = component_name m r.0 in
     let is : name ≡ c = components-one m g name c (component_name-there m g r.0 hr) h (component_sub m g name r.0 c (components-signed m name (component_name-there m g r.0 hr)) (component_sym m g r.0 name hr (component_name-in m r.0 hr)) r.2) in
-    subst (λ z. has_edge names z ≡ true) is (in_map (component_name m) starts r.0 r.1)) in
+    subst (λ z. has_edge names z ≡ true) is (in_map same_edges (component_name m) starts r.0 r.1)) in
     let long = length-map_edges (component_name m) starts in
     omega arith

@@ -7,17 +7,6 @@ use Rattle.topo_base.specs.SignedEdge.{same_edge}
 use Rattle.plane_model.specs.Sets.{has_edge, is_distinct_edges}
 use Rattle.plane_model.proofs.SetLaws.{same_is, same_self}
 
-pub edge_any : (p : ℤ → Bool) (xs : List ℤ) (x : ℤ) → has_edge xs x ≡ true → p x ≡ true → list_any p xs ≡ true
-edge_any p [] x h k = cc
-edge_any p (y ∷ xs) x h k = elim (or_cases (same_edge x y) (has_edge xs x) h) [
-  | inl is ↦ or_left (p y) _ (subst (λ z. p z ≡ true) (same_is x y is) k)
-  | inr more ↦ or_right (p y) _ (edge_any p xs x more k)
-]
-
-pub edges_all : (p : ℤ → Bool) (xs : List ℤ) → ((x : ℤ) → has_edge xs x ≡ true → p x ≡ true) → list_all p xs ≡ true
-edges_all p [] h = refl
-edges_all p (x ∷ xs) h = and_from (p x) (list_all p xs) (h x (or_left _ _ (same_self x))) (edges_all p xs (λ y k. h y (or_right (same_edge y x) _ k)))
-
 -- the one that passes is found
 pub find_one : (p : ℤ → Bool) (xs : List ℤ) (x : ℤ) → has_edge xs x ≡ true → p x ≡ true → ((y : ℤ) → has_edge xs y ≡ true → p y ≡ true → y ≡ x) → find p xs ≡ Some x
 find_one p [] x h k one = cc
@@ -45,24 +34,6 @@ pub place_has : (xs : List ℤ) (k : ℕ) (r : ℤ) → slice_get xs k ≡ Some 
 place_has [] k r h = cc
 place_has (x ∷ xs) zero r h = let is : x ≡ r = cc in or_left (same_edge r x) _ (subst (λ z. same_edge r z ≡ true) (sym is) (same_self r))
 place_has (x ∷ xs) (suc k) r h = or_right (same_edge r x) _ (place_has xs k r h)
-
--- images
-pub of_map : (f : ℤ → ℤ) (xs : List ℤ) (d : ℤ) → has_edge (map f xs) d ≡ true → (x : ℤ) × (has_edge xs x ≡ true) × (d ≡ f x)
-of_map f [] d h = absurd (both_ways false refl h)
-of_map f (x ∷ xs) d h = elim (or_cases (same_edge d (f x)) (has_edge (map f xs) d) h) [
-  | inl is ↦ (x, or_left _ _ (same_self x), same_is d (f x) is)
-  | inr more ↦ let r = of_map f xs d more in (r.0, or_right _ _ r.1, r.2)
-]
-
--- where no two have one image, images are distinct
-pub map_apart : (f : ℤ → ℤ) (xs : List ℤ) → is_distinct_edges xs ≡ true → ((x y : ℤ) → has_edge xs x ≡ true → has_edge xs y ≡ true → f x ≡ f y → x ≡ y) → is_distinct_edges (map f xs) ≡ true
-map_apart f [] h one = refl
-map_apart f (x ∷ xs) h one =
-    let parts = and_parts (not (has_edge xs x)) (is_distinct_edges xs) h in
-    let none : has_edge (map f xs) (f x) ≡ false = false_from_ne_true (has_edge (map f xs) (f x)) (λ on.
-    let y = of_map f xs (f x) on in
-    both_ways _ (not-true _ parts.0) (subst (λ z. has_edge xs z ≡ true) (sym (one x y.0 (or_left _ _ (same_self x)) (or_right (same_edge y.0 x) _ y.1) y.2)) y.1)) in
-    rw none (map_apart f xs parts.1 (λ y z hy hz. one y z (or_right (same_edge y x) _ hy) (or_right (same_edge z x) _ hz)))
 
 pub length-map_edges : (f : ℤ → ℤ) (xs : List ℤ) → length (map f xs) ≡ length xs
 length-map_edges f [] = refl

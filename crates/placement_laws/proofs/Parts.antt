@@ -2,16 +2,15 @@
 use Rattle.std.proofs.Common.{◌≡◌, inl, inr, ℤ, true, List, refl, sym, ap, ◌∙◌, subst, arith}
 use Rattle.std.proofs.lemmas.Bool.{or_cases, or_left, or_right}
 use Rattle.topo_base.specs.SignedEdge.{same_edge}
+use Rattle.orbits.proofs.Lists.{from_filter, same_tests, apart_kept}
 use Rattle.plane_model.specs.Rows.{Rows}
 use Rattle.plane_model.specs.Sets.{has_edge, is_distinct_edges}
 use Rattle.plane_model.specs.PlaneMap.{PlaneMap, map_of, signed_edges, side, ring, rings, smallest}
 use Rattle.plane_model.specs.Component.{component, components}
-use Rattle.plane_model.proofs.SetLaws.{same_is, same_self}
-use Rattle.plane_model.proofs.Closed.{from_filter}
+use Rattle.plane_model.proofs.SetLaws.{same_is, same_self, same_edges}
 use Rattle.plane_model.proofs.Rounds.{RingFacts}
-use Rattle.plane_model.proofs.FaultParts.{same_tests}
 use Rattle.plane_model.proofs.SortedEdges.{rank, not_before, same_rank, smallest_least}
-use Rattle.plane_model.proofs.RotationOrbits.{Parts, named, name_there, name_one, is_named, ring_parts, signed_apart, apart_kept}
+use Rattle.plane_model.proofs.RotationOrbits.{Parts, named, name_there, name_one, is_named, ring_parts, signed_apart}
 use Rattle.plane_model.proofs.ComponentParts.{component_own, component_parts, component-ring, one_side}
 use Rattle.plane_model.proofs.ComponentParts as parts
 use Rattle.placement_laws.specs.Placing.{IsLabelledRotation}
@@ -51,7 +50,7 @@ part_name-same us part p d e h k = let n = is_named us part p in n.same d e h k
 part_one : (us : List ℤ) (part : ℤ → List ℤ) → Parts us part → (r q : ℤ) → has_edge (named us part) r ≡ true → has_edge (named us part) q ≡ true → has_edge (part r) q ≡ true → r ≡ q
 unfolding named
 part_one us part p r q h k on =
-    let hq = from_filter (λ d. same_edge d (smallest d (part d))) us q k in
+    let hq = from_filter same_edges (λ d. same_edge d (smallest d (part d))) us q k in
     name_one us part p q r hq.1 h on ∙ sym (same_is q (smallest q (part q)) hq.0)
 
 part_alike : (us : List ℤ) (part : ℤ → List ℤ) → Parts us part → (d e : ℤ) → has_edge us d ≡ true → has_edge us e ≡ true → has_edge (part d) e ≡ same_edge (smallest d (part d)) (smallest e (part e))
@@ -103,10 +102,10 @@ unfolding named
 components-one m g c d h k on = part_one (signed_edges m) (component m) g.components c d h k on
 
 pub components-signed : (m : PlaneMap) (c : ℤ) → has_edge (components m) c ≡ true → has_edge (signed_edges m) c ≡ true
-components-signed m c h = (from_filter (λ x. same_edge x (smallest x (component m x))) (signed_edges m) c h).1
+components-signed m c h = (from_filter same_edges (λ x. same_edge x (smallest x (component m x))) (signed_edges m) c h).1
 
 pub components-apart : (m : PlaneMap) → HasParts m → is_distinct_edges (components m) ≡ true
-components-apart m g = apart_kept (λ x. same_edge x (smallest x (component m x))) (signed_edges m) g.once
+components-apart m g = apart_kept same_edges (λ x. same_edge x (smallest x (component m x))) (signed_edges m) g.once
 
 pub component_alike : (m : PlaneMap) → HasParts m → (d e : ℤ) → has_edge (signed_edges m) d ≡ true → has_edge (signed_edges m) e ≡ true → has_edge (component m d) e ≡ same_edge (component_name m d) (component_name m e)
 component_alike m g d e h k = part_alike (signed_edges m) (component m) g.components d e h k
@@ -134,10 +133,10 @@ unfolding named
 rings-one m g r q h k on = part_one (signed_edges m) (ring m) g.rings r q h k on
 
 pub rings-signed : (m : PlaneMap) (r : ℤ) → has_edge (rings m) r ≡ true → has_edge (signed_edges m) r ≡ true
-rings-signed m r h = (from_filter (λ x. same_edge x (smallest x (ring m x))) (signed_edges m) r h).1
+rings-signed m r h = (from_filter same_edges (λ x. same_edge x (smallest x (ring m x))) (signed_edges m) r h).1
 
 pub rings-apart : (m : PlaneMap) → HasParts m → is_distinct_edges (rings m) ≡ true
-rings-apart m g = apart_kept (λ x. same_edge x (smallest x (ring m x))) (signed_edges m) g.once
+rings-apart m g = apart_kept same_edges (λ x. same_edge x (smallest x (ring m x))) (signed_edges m) g.once
 
 pub ring_alike : (m : PlaneMap) → HasParts m → (d e : ℤ) → has_edge (signed_edges m) d ≡ true → has_edge (signed_edges m) e ≡ true → has_edge (ring m d) e ≡ same_edge (ring_name m d) (ring_name m e)
 ring_alike m g d e h k = part_alike (signed_edges m) (ring m) g.rings d e h k
@@ -151,7 +150,7 @@ ring_side m g d e h k = g.one_face d e h k
 -- the smallest signed edge of a component names its own ring
 pub components-rings : (m : PlaneMap) → HasParts m → (c : ℤ) → has_edge (components m) c ≡ true → has_edge (rings m) c ≡ true
 components-rings m g c h =
-    let it = from_filter (λ x. same_edge x (smallest x (component m x))) (signed_edges m) c h in
+    let it = from_filter same_edges (λ x. same_edge x (smallest x (component m x))) (signed_edges m) c h in
     let n = ring_name m c in
     let of_ring = smallest_least c (ring m c) in
     let of_component = smallest_least c (component m c) in

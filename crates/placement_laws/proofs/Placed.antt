@@ -3,14 +3,14 @@ use Rattle.std.proofs.Common.{◌≡◌, ℕ, zero, suc, ◌+◌, ◌<◌, ◌�
 use Rattle.std.specs.Prelude.{slice_get}
 use Rattle.std.proofs.lemmas.Bool.{eqb-true, and_parts, or_cases, or_left, or_right, both_ways, not-true, false_from_ne_true}
 use Rattle.topo_base.specs.SignedEdge.{same_edge}
+use Rattle.orbits.proofs.Lists.{from_filter, in_either, in_neither, in_front, in_back}
 use Rattle.plane_model.specs.Rows.{Rows}
 use Rattle.plane_model.specs.Sets.{has, has_edge}
 use Rattle.plane_model.specs.PlaneMap.{PlaneMap, map_of, side, rings}
 use Rattle.plane_model.specs.Component.{component, components}
 use Rattle.plane_model.specs.Faces.{of_components, reached_through, outer_rings, is_placed}
-use Rattle.plane_model.proofs.SetLaws.{same_self}
-use Rattle.plane_model.proofs.Closed.{from_filter}
-use Rattle.plane_model.proofs.Rounds.{RingFacts, Holds, through, one_round, in_either, in_neither, in_front, in_back, from_component}
+use Rattle.plane_model.proofs.SetLaws.{same_self, same_edges}
+use Rattle.plane_model.proofs.Rounds.{RingFacts, Holds, through, one_round, from_component}
 use Rattle.plane_model.proofs.OuterRings.{Shells}
 use Rattle.plane_model.proofs.OneOuterRing.{IsPlacedMap, its_outer_ring, one_outer_ring, placed_shells, shell_face, face_shell, one_shell}
 use Rattle.placement_laws.specs.Placing.{IsLabelledRotation, IsPlacing, IsShellOfEarlier}
@@ -32,7 +32,7 @@ Ordered m last before [] = Unit
 Ordered m last before (r ∷ rs) = ((side m r ≡ 0) ⊎ Earlier m last before (side m r)) × Ordered m last (before ++ r ∷ []) rs
 
 weaker : (m : PlaneMap) (last before more : List ℤ) (f : ℕ) → Earlier m last before f → Earlier m last (before ++ more) f
-weaker m last before more f e = record { ring = e.ring; there = e.there; not_outer = e.not_outer; its_face = e.its_face; start = e.start; is_before = in_front before more e.start e.is_before; within = e.within }
+weaker m last before more f e = record { ring = e.ring; there = e.there; not_outer = e.not_outer; its_face = e.its_face; start = e.start; is_before = in_front same_edges before more e.start e.is_before; within = e.within }
 
 ordered_append : (m : PlaneMap) (last : List ℤ) (xs before ys : List ℤ) → ((r : ℤ) → has_edge xs r ≡ true → (side m r ≡ 0) ⊎ Earlier m last before (side m r)) → Ordered m last (before ++ xs) ys → Ordered m last before (xs ++ ys)
 ordered_append m last [] before ys each rest = subst (λ b. Ordered m last b ys) (append-nil before) rest
@@ -49,9 +49,9 @@ unfolding reached_through through
 not_again m zero front reached q h = refl
 not_again m (suc n) front reached q h =
     let now = through m front reached in
-    in_neither now (reached_through n m (map (side m) (of_components m now)) (reached ++ of_components m now)) q
-    (false_from_ne_true (has_edge now q) (λ on. both_ways _ (not-true _ (and_parts _ _ (from_filter (λ r. has front (side m r) && not (has_edge reached r)) (rings m) q on).0).1) h))
-    (not_again m n _ _ q (in_front reached (of_components m now) q h))
+    in_neither same_edges now (reached_through n m (map (side m) (of_components m now)) (reached ++ of_components m now)) q
+    (false_from_ne_true (has_edge now q) (λ on. both_ways _ (not-true _ (and_parts _ _ (from_filter same_edges (λ r. has front (side m r) && not (has_edge reached r)) (rings m) q on).0).1) h))
+    (not_again m n _ _ q (in_front same_edges reached (of_components m now) q h))
 
 -- what is reached is in the component of an outer ring
 unfoldable pub Whose : PlaneMap → List ℤ → List ℤ → Type 0
@@ -59,9 +59,9 @@ Whose m outer reached = (d : ℤ) → has_edge reached d ≡ true → (o : ℤ) 
 
 pub next_whose : (m : PlaneMap) (front : List ℕ) (reached outer : List ℤ) → Whose m outer reached → Whose m (outer ++ through m front reached) (reached ++ of_components m (through m front reached))
 unfolding Whose
-next_whose m front reached outer now d h = elim (in_either reached (of_components m (through m front reached)) d h) [
-  | inl old ↦ let o = now d old in (o.0, in_front outer (through m front reached) o.0 o.1, o.2)
-  | inr new ↦ let t = from_component m (through m front reached) d new in (t.0, in_back outer (through m front reached) t.0 t.1, t.2)
+next_whose m front reached outer now d h = elim (in_either same_edges reached (of_components m (through m front reached)) d h) [
+  | inl old ↦ let o = now d old in (o.0, in_front same_edges outer (through m front reached) o.0 o.1, o.2)
+  | inr new ↦ let t = from_component m (through m front reached) d new in (t.0, in_back same_edges outer (through m front reached) t.0 t.1, t.2)
 ]
 
 pub begin_whose : (m : PlaneMap) → Whose m [] []
@@ -72,7 +72,7 @@ placed_before : (m : PlaneMap) (last : List ℤ) (n : ℕ) (front : List ℕ) (r
     → (r : ℤ) → has_edge (through m front reached) r ≡ true → (side m r ≡ 0) ⊎ Earlier m last outer (side m r)
 unfolding through Whose
 placed_before m last n front reached outer now whose e r h =
-    let on = (and_parts (has front (side m r)) (not (has_edge reached r)) (from_filter (λ r. has front (side m r) && not (has_edge reached r)) (rings m) r h).0).0 in
+    let on = (and_parts (has front (side m r)) (not (has_edge reached r)) (from_filter same_edges (λ r. has front (side m r) && not (has_edge reached r)) (rings m) r h).0).0 in
     elim (now.known (side m r) on) [
       | inl z ↦ inl z
       | inr d ↦ elim (now.shells d.0 d.1) [
@@ -82,7 +82,7 @@ placed_before m last n front reached outer now whose e r h =
             inr (record {
               ring = s.ring;
               there = s.there;
-              not_outer = subst (λ xs. has_edge xs s.ring ≡ false) (sym e) (in_neither outer (reached_through n m front reached) s.ring s.not_outer (not_again m n front reached s.ring s.reached_it));
+              not_outer = subst (λ xs. has_edge xs s.ring ≡ false) (sym e) (in_neither same_edges outer (reached_through n m front reached) s.ring s.not_outer (not_again m n front reached s.ring s.reached_it));
               its_face = s.its_face ∙ d.2;
               start = o.0;
               is_before = o.1;
