@@ -1,0 +1,9 @@
+use Rattle.std.specs.Prelude.{map}
+use Rattle.std.specs.List.{range_with_len}
+use Rattle.std.proofs.Common.{◌≡◌, ◌++◌, ◌+◌}
+use Rattle.map_maker.specs.Grid.{north_edge, place_of}
+use Rattle.map_maker.proofs.rows.push_north_edges.Given as goal
+
+-- the rows so far
+abbrev pub invariant-loop-i : goal.invariant-loop-i
+invariant-loop-i l = l.edges.items ≡ l.initial.edges.items ++ map (north_edge l.n) (map (place_of (l.n + 1)) (range_with_len 0 l.i))
