@@ -5,13 +5,13 @@ use Rattle.std.proofs.lemmas.Option.{slice_get-get_or}
 use Rattle.std.proofs.lemmas.Bool.{eqb-true, cases_Bool, both_ways, lt-ltb, ne_eqb}
 use Rattle.topo_base.specs.SignedEdge.{same_edge}
 use Rattle.topo_base.specs.declared.refusal.Refusal.TheVariants as refusal
+use Rattle.orbits.proofs.Lists.{same_tests}
 use Rattle.plane_model.specs.declared.rows.NodeRow.{NodeRow}
 use Rattle.plane_model.specs.Rows.{Rows}
 use Rattle.plane_model.specs.Orders.{how_often}
 use Rattle.plane_model.specs.PlaneMap.{PlaneMap, map_of, signed_edges, leaving, next, origin}
 use Rattle.plane_model.specs.Faults.{node_with_face}
 use Rattle.plane_model.proofs.SetLaws.{same_is, same_self}
-use Rattle.plane_model.proofs.FaultParts.{same_tests}
 use Rattle.rotation_check.specs.Darts.{AreDarts, node_id, signed_edge}
 use Rattle.rotation_check.specs.Counts.{AreCounts}
 use Rattle.rotation_check.proofs.DartLists.{dart_edges, number_of, number_of-signed, length-dart_edges, get-dart_edges}

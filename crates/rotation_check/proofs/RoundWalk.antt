@@ -3,11 +3,12 @@ use Rattle.std.proofs.Common.{◌≡◌, ℕ, zero, suc, ◌+◌, ◌*◌, ◌<�
 use Rattle.std.specs.Prelude.{if◌then◌else◌, slice_index}
 use Rattle.std.proofs.lemmas.Bool.{or_cases, cases_Bool, both_ways}
 use Rattle.topo_base.specs.SignedEdge.{same_edge}
+use Rattle.orbits.specs.Walks as walks
+use Rattle.orbits.proofs.Orbits.{orbit_returns}
 use Rattle.plane_model.specs.Rows.{Rows}
 use Rattle.plane_model.specs.PlaneMap.{map_of, signed_edges, turn, until_return, round}
 use Rattle.plane_model.specs.Orders.{Permutes, returns}
-use Rattle.plane_model.proofs.SetLaws.{same_is, same_self}
-use Rattle.plane_model.proofs.Returns.{orbit_returns}
+use Rattle.plane_model.proofs.SetLaws.{same_is, same_self, same_edges}
 use Rattle.rotation_check.specs.Darts.{AreDarts, reverse_dart, signed_edge}
 use Rattle.rotation_check.proofs.DartLists.{dart_edges, number_of, number_of-signed, length-dart_edges, signed_there}
 use Rattle.rotation_check.proofs.EndLemmas.{one_dart}
@@ -18,7 +19,7 @@ pub left : ℕ → (ℤ → ℤ) → ℤ → ℤ → ℕ
 left n step first x = if same_edge x first then 0 else length (until_return n step first x)
 
 length-until : (n : ℕ) (step : ℤ → ℤ) (first x : ℤ) → length (until_return (suc n) step first x) ≡ suc (left n step first (step x))
-unfolding until_return left
+unfolding walks.until_return left
 length-until n step first x = elim (cases_Bool (same_edge (step x) first)) [ inl e ↦ rw e refl | inr e ↦ rw e refl ]
 
 left-first : (n : ℕ) (step : ℤ → ℤ) (first x : ℤ) → same_edge x first ≡ true → left n step first x ≡ 0
@@ -55,7 +56,7 @@ round_first t nexts rows darts p dart after h is =
     let d = signed_edge t.edges dart in
     let step = turn (map_of t) in
     let s = turned t nexts rows darts dart after h is in
-    by_length (length (signed_edges (map_of t))) refl (length-signed t) (orbit_returns (signed_edges (map_of t)) step p d (signed_there t dart h)) s
+    by_length (length (signed_edges (map_of t))) refl (length-signed t) (orbit_returns same_edges (signed_edges (map_of t)) step p d (signed_there t dart h)) s
   where
     by_length : (n : ℕ) → length (signed_edges (map_of t)) ≡ n → length (signed_edges (map_of t)) ≡ 2 * length t.edges
         → returns (length (signed_edges (map_of t))) (turn (map_of t)) (signed_edge t.edges dart) (signed_edge t.edges dart) ≡ true

@@ -6,6 +6,8 @@ use Rattle.std.specs.List.{list_all}
 use Rattle.std.proofs.lemmas.Bool.{eqb-true, and_from, or_cases, cases_Bool, cases_lt, or_left, or_right, both_ways}
 use Rattle.std.proofs.lemmas.List.{length-map}
 use Rattle.topo_base.specs.declared.refusal.Refusal.TheVariants as refusal
+use Rattle.orbits.proofs.Lists.{in_filter, from_filter, pigeon, same_tests}
+use Rattle.orbits.proofs.Orbits.{orbit_apart, orbit_same}
 use Rattle.plane_model.specs.declared.rows.NodeRow.{NodeRow}
 use Rattle.plane_model.specs.Rows.{Rows}
 use Rattle.plane_model.specs.Sets.{has, has_edge, is_distinct_edges, rising}
@@ -13,11 +15,7 @@ use Rattle.plane_model.specs.PlaneMap.{PlaneMap, map_of, signed_edges, leaving, 
 use Rattle.plane_model.specs.Rotation.{is_one_orbit}
 use Rattle.plane_model.specs.Orders.{Permutes, how_often}
 use Rattle.plane_model.specs.Faults.{either_way, first_in, next_twice, split_node, wrong_end}
-use Rattle.plane_model.proofs.SetLaws.{same_self}
-use Rattle.plane_model.proofs.Closed.{in_filter, from_filter}
-use Rattle.plane_model.proofs.Returns.{pigeon}
-use Rattle.plane_model.proofs.FaultParts.{same_tests}
-use Rattle.plane_model.proofs.Orbits.{orbit_apart, orbit_same}
+use Rattle.plane_model.proofs.SetLaws.{same_self, same_edges}
 use Rattle.plane_model.proofs.NodeRounds.{ends_meet, fills, one_orbit-length, round_leaves}
 use Rattle.plane_model.proofs.RotationFaults.{none-wrong_end, none-next_twice, nexts_there, signed_rows_rise}
 use Rattle.plane_model.proofs.RotationOrbits.{next_from_parts, turn_from_next}
@@ -56,14 +54,14 @@ meets t nexts rows darts ends once =
 round_fills : (m : PlaneMap) → Meets m → (n : ℕ) (d e : ℤ) → has_edge (leaving m n) d ≡ true → has_edge (leaving m n) e ≡ true → length (round m d) ≡ length (leaving m n) → length (round m e) ≡ length (leaving m n)
 round_fills m ok n d e d_in e_in full =
     let us = signed_edges m in
-    let d_us = (from_filter (λ d. origin m d == n) us d d_in).1 in
-    let e_us = (from_filter (λ d. origin m d == n) us e e_in).1 in
-    let d_apart = orbit_apart us (turn m) ok.permutes d d_us in
-    let e_apart = orbit_apart us (turn m) ok.permutes e e_us in
+    let d_us = (from_filter same_edges (λ d. origin m d == n) us d d_in).1 in
+    let e_us = (from_filter same_edges (λ d. origin m d == n) us e e_in).1 in
+    let d_apart = orbit_apart same_edges us (turn m) ok.permutes d d_us in
+    let e_apart = orbit_apart same_edges us (turn m) ok.permutes e e_us in
     let on = fills (round m d) (leaving m n) d_apart (λ x on. round_leaves m ok.ends ok.permutes n d x d_in on) (omega arith) e e_in in
-    let same = orbit_same us (turn m) ok.permutes d e d_us on in
-    let a = pigeon (round m e) (round m d) e_apart (λ x k. sym (same x) ∙ k) in
-    let b = pigeon (round m d) (round m e) d_apart (λ x k. same x ∙ k) in
+    let same = orbit_same same_edges us (turn m) ok.permutes d e d_us on in
+    let a = pigeon same_edges (round m e) (round m d) e_apart (λ x k. sym (same x) ∙ k) in
+    let b = pigeon same_edges (round m d) (round m e) d_apart (λ x k. same x ∙ k) in
     omega arith
 
 -- so the round of any signed edge that leaves a node tells
@@ -99,7 +97,7 @@ place_leaves t nexts rows counts places darts are_counts are_places nth h some =
     let lt : get_or places nth 0 < 2 * length t.edges = omega arith in
     let n = darts.node_rows.1 (get_or places nth 0) lt in
     let leaves : origin (map_of t) (signed_edge t.edges (get_or places nth 0)) ≡ node_id t.nodes nth = sym n.1 ∙ ap (node_id t.nodes) stands in
-    (lt, in_filter (λ d. origin (map_of t) d == node_id t.nodes nth) (signed_edges (map_of t)) (signed_edge t.edges (get_or places nth 0)) (eq-eqb _ _ leaves) (signed_there t (get_or places nth 0) lt))
+    (lt, in_filter same_edges (λ d. origin (map_of t) d == node_id t.nodes nth) (signed_edges (map_of t)) (signed_edge t.edges (get_or places nth 0)) (eq-eqb _ _ leaves) (signed_there t (get_or places nth 0) lt))
 
 pub split_is : (t : Rows) (nexts rows counts places : List ℕ) → AreDarts t nexts rows → AreCounts rows (length t.nodes) counts → ArePlaces rows (length t.nodes) places → Meets (map_of t) → (nth : ℕ) → nth < length t.nodes → 0 < get_or counts nth 0
     → is_one_orbit (map_of t) (leaving (map_of t) (node_id t.nodes nth)) ≡ (length (round (map_of t) (signed_edge t.edges (get_or places nth 0))) == get_or counts nth 0)
