@@ -4,15 +4,14 @@ use Rattle.std.specs.List.{list_any, list_all}
 use Rattle.std.proofs.lemmas.Bool.{eqb-true, and_parts, cases_Bool, or_left, or_right, both_ways}
 use Rattle.std.proofs.lemmas.List.{length-map}
 use Rattle.topo_base.specs.SignedEdge.{same_edge}
+use Rattle.orbits.proofs.Lists.{among, in_filter, from_filter, same_tests}
 use Rattle.plane_model.specs.declared.rows.NodeRow.{NodeRow}
 use Rattle.plane_model.specs.declared.rows.EdgeRow.{EdgeRow}
 use Rattle.plane_model.specs.Sets.{has, has_edge}
 use Rattle.plane_model.specs.PlaneMap.{PlaneMap, signed_edges, smallest, origin, leaving, ring, round}
 use Rattle.plane_model.specs.Rotation.{is_one_orbit, is_whole_node}
 use Rattle.plane_model.specs.Component.{component, node_count, edge_count, ring_count}
-use Rattle.plane_model.proofs.SetLaws.{same_is, same_self, among}
-use Rattle.plane_model.proofs.Closed.{in_filter, from_filter}
-use Rattle.plane_model.proofs.FaultParts.{same_tests}
+use Rattle.plane_model.proofs.SetLaws.{same_is, same_self, same_edges}
 use Rattle.plane_model.proofs.Sorting as sorting
 use Rattle.plane_model.proofs.RotationOrbits.{name_there, ring_parts}
 use Rattle.plane_model.proofs.ComponentParts.{component-node, component-round, component-ring}
@@ -71,7 +70,7 @@ module _ (r : RotationRows) (is : IsRotation r) (components : Numbers) (are : Ar
       by_list [] e = refl
       by_list (d ∷ ds) e =
           let on : has_edge (leaving (map_of_rotation r) n) d ≡ true = subst (λ xs. has_edge xs d ≡ true) (sym e) (or_left _ _ (same_self d)) in
-          let passed = from_filter (λ x. origin (map_of_rotation r) x == n) (signed_edges (map_of_rotation r)) d on in
+          let passed = from_filter same_edges (λ x. origin (map_of_rotation r) x == n) (signed_edges (map_of_rotation r)) d on in
           let k = dart_place (own_rows r) d passed.1 in
           absurd (none k.0 k.1 (ap (origin (map_of_rotation r)) k.2 ∙ eqb-true _ _ passed.0))
 
@@ -80,7 +79,7 @@ module _ (r : RotationRows) (is : IsRotation r) (components : Numbers) (are : Ar
   one_left c there n n_in d h leaves = by_list (leaving (map_of_rotation r) n) refl
     where
       d_on : has_edge (leaving (map_of_rotation r) n) (signed_edge r.edges d) ≡ true
-      d_on = in_filter (λ x. origin (map_of_rotation r) x == n) (signed_edges (map_of_rotation r)) (signed_edge r.edges d) (eq-eqb _ _ leaves) (signed_there (own_rows r) d h)
+      d_on = in_filter same_edges (λ x. origin (map_of_rotation r) x == n) (signed_edges (map_of_rotation r)) (signed_edge r.edges d) (eq-eqb _ _ leaves) (signed_there (own_rows r) d h)
 
       by_list : (ds : List ℤ) → leaving (map_of_rotation r) n ≡ ds → list_any (has_edge (component (map_of_rotation r) c)) (leaving (map_of_rotation r) n) ≡ has_edge (component (map_of_rotation r) c) (signed_edge r.edges d)
       by_list [] e = absurd (both_ways false refl (subst (λ xs. has_edge xs (signed_edge r.edges d) ≡ true) e d_on))
@@ -89,13 +88,13 @@ module _ (r : RotationRows) (is : IsRotation r) (components : Numbers) (are : Ar
           let one = and_parts (is_one_orbit (map_of_rotation r) (leaving (map_of_rotation r) n)) _ whole in
           let rest : list_all (has_edge (round (map_of_rotation r) x)) xs ≡ true = subst (λ es. is_one_orbit (map_of_rotation r) es ≡ true) e one.0 in
           let x_on : has_edge (leaving (map_of_rotation r) n) x ≡ true = subst (λ es. has_edge es x ≡ true) (sym e) (or_left _ _ (same_self x)) in
-          let x_in = (from_filter (λ y. origin (map_of_rotation r) y == n) (signed_edges (map_of_rotation r)) x x_on).1 in
+          let x_in = (from_filter same_edges (λ y. origin (map_of_rotation r) y == n) (signed_edges (map_of_rotation r)) x x_on).1 in
           let d_in : has_edge (x ∷ xs) (signed_edge r.edges d) ≡ true = subst (λ es. has_edge es (signed_edge r.edges d) ≡ true) e d_on in
           component-node (own_rows r) is.rotation c x xs n there n_in e ∙ elim (cases_Bool (same_edge (signed_edge r.edges d) x)) [
             | inl same ↦ ap (has_edge (component (map_of_rotation r) c)) (sym (same_is (signed_edge r.edges d) x same))
             | inr other ↦
                 let on : has_edge xs (signed_edge r.edges d) ≡ true = rw other at d_in in
-                sym (component-round (own_rows r) is.rotation c x (signed_edge r.edges d) there x_in (among (has_edge (round (map_of_rotation r) x)) xs (signed_edge r.edges d) rest on))
+                sym (component-round (own_rows r) is.rotation c x (signed_edge r.edges d) there x_in (among same_edges (has_edge (round (map_of_rotation r) x)) xs (signed_edge r.edges d) rest on))
           ]
 
   node_there : (k : ℕ) → k < length r.nodes → has (map_of_rotation r).nodes.keys (get_or (map (λ n. n.id) r.nodes) k 0) ≡ true

@@ -3,16 +3,14 @@ use Rattle.std.proofs.Common.{◌≡◌, ℕ, zero, suc, ◌*◌, ◌<◌, ◌�
 use Rattle.std.specs.Prelude.{if◌then◌else◌}
 use Rattle.std.proofs.lemmas.Bool.{and_from, cases_Bool, cases_lt, or_cases, or_left, or_right, both_ways}
 use Rattle.topo_base.specs.SignedEdge.{same_edge}
+use Rattle.orbits.proofs.Lists.{from_filter, in_filter, in_map, pigeon, same_tests, apart_kept}
 use Rattle.plane_model.specs.declared.rows.EdgeRow.{EdgeRow}
 use Rattle.plane_model.specs.Sets.{has_edge, is_distinct_edges}
 use Rattle.plane_model.specs.PlaneMap.{map_of, signed_edges, smallest, ring, rings}
 use Rattle.plane_model.specs.Component.{component, components}
 use Rattle.plane_model.specs.Orders.{IsNamed}
-use Rattle.plane_model.proofs.SetLaws.{same_is, same_self}
-use Rattle.plane_model.proofs.Closed.{from_filter, in_filter, in_map}
-use Rattle.plane_model.proofs.Returns.{pigeon}
-use Rattle.plane_model.proofs.FaultParts.{same_tests}
-use Rattle.plane_model.proofs.RotationOrbits.{apart_kept, named, names_counted, ring_named, ring_parts, rings_counted, signed_apart}
+use Rattle.plane_model.proofs.SetLaws.{same_is, same_self, same_edges}
+use Rattle.plane_model.proofs.RotationOrbits.{named, names_counted, ring_named, ring_parts, rings_counted, signed_apart}
 use Rattle.plane_model.proofs.ComponentParts.{component_named, components_counted}
 use Rattle.rotation_check.specs.Darts.{RotationRows, IsRotation, map_of_rotation, signed_edge}
 use Rattle.rotation_check.proofs.DartLists.{dart_edges, dart_place, dart_to_signed, signed_to_dart, signed_there}
@@ -94,7 +92,7 @@ module _ (r : RotationRows) (is : IsRotation r) where
       (λ on.
       let d = all.from x on in
       subst (λ z. has_edge (map (λ d. smallest d (part d)) (dart_edges r.edges)) z ≡ true) (sym d.3)
-      (in_map (λ d. smallest d (part d)) (dart_edges r.edges) (signed_edge r.edges d.0) (signed_to_dart (own_rows r) (signed_edge r.edges d.0) (signed_there (own_rows r) d.0 d.1))))
+      (in_map same_edges (λ d. smallest d (part d)) (dart_edges r.edges) (signed_edge r.edges d.0) (signed_to_dart (own_rows r) (signed_edge r.edges d.0) (signed_there (own_rows r) d.0 d.1))))
       (λ on.
       let e = image_back (λ d. smallest d (part d)) (dart_edges r.edges) x on in
       let d = dart_place (own_rows r) e.0 (dart_to_signed (own_rows r) e.0 e.1) in
@@ -108,12 +106,12 @@ module _ (r : RotationRows) (is : IsRotation r) where
       let us = signed_edges (map_of_rotation r) in
       let part = ring (map_of_rotation r) in
       let all = names_below r.edges us part (ring_named (own_rows r) is.rotation) (signed_there (own_rows r)) numbers are numbers.count (omega arith) in
-      let apart = apart_kept (λ d. same_edge d (smallest d (part d))) us (signed_apart (map_of_rotation r) is.rotation) in
+      let apart = apart_kept same_edges (λ d. same_edge d (smallest d (part d))) us (signed_apart (map_of_rotation r) is.rotation) in
       let members = (names_counted us part (ring_parts (own_rows r) is.rotation) apart (dart_edges r.edges) all.names darts_all all.once (names_are part numbers are all)).0 in
       as_many_pass p (rings (map_of_rotation r)) all.names apart all.once (λ x. sym (members x)) ∙ all.passing p q same
     where
       half : (p : ℤ → Bool) (xs ys : List ℤ) → is_distinct_edges xs ≡ true → ((x : ℤ) → has_edge xs x ≡ has_edge ys x) → length (filter p xs) ≤ length (filter p ys)
-      half p xs ys apart members = pigeon (filter p xs) (filter p ys) (apart_kept p xs apart) (λ x on. let a = from_filter p xs x on in in_filter p ys x a.0 (sym (members x) ∙ a.1))
+      half p xs ys apart members = pigeon same_edges (filter p xs) (filter p ys) (apart_kept same_edges p xs apart) (λ x on. let a = from_filter same_edges p xs x on in in_filter same_edges p ys x a.0 (sym (members x) ∙ a.1))
 
       as_many_pass : (p : ℤ → Bool) (xs ys : List ℤ) → is_distinct_edges xs ≡ true → is_distinct_edges ys ≡ true → ((x : ℤ) → has_edge xs x ≡ has_edge ys x) → length (filter p xs) ≡ length (filter p ys)
       as_many_pass p xs ys xs_apart ys_apart members = let a = half p xs ys xs_apart members in let b = half p ys xs ys_apart (λ x. sym (members x)) in omega arith

@@ -4,11 +4,12 @@ use Rattle.std.proofs.Math.ListN.{set, length-set}
 use Rattle.std.proofs.lemmas.Bool.{and_from, and_parts, cases_eq, eqb-true, or_cases, or_left, or_right, both_ways}
 use Rattle.std.proofs.lemmas.List.{get_or-set_same, get_or-set_other, length-append}
 use Rattle.topo_base.specs.SignedEdge.{reverse, same_edge}
+use Rattle.orbits.proofs.Lists.{among}
 use Rattle.plane_model.specs.declared.rows.EdgeRow.{EdgeRow}
 use Rattle.plane_model.specs.Sets.{has, has_edge}
 use Rattle.plane_model.specs.PlaneMap.{turn}
 use Rattle.plane_model.specs.Component.{component}
-use Rattle.plane_model.proofs.SetLaws.{among, same_is, same_self, IsClosed, component-least}
+use Rattle.plane_model.proofs.SetLaws.{same_is, same_self, IsClosed, component-least, same_edges}
 use Rattle.plane_model.proofs.ComponentParts.{component_own, component-reverse, component-turn}
 use Rattle.plane_model.proofs.RotationOrbits.{turn_permutes}
 use Rattle.rotation_check.specs.Darts.{RotationRows, IsRotation, map_of_rotation, reverse_dart, signed_edge}
@@ -286,7 +287,6 @@ module _ (r : RotationRows) (is : IsRotation r) (first number : ℕ) (old : List
   pub flooding_done : (new : List (Option ℕ)) (waiting : List ℕ) → waiting ≡ [] → IsFlooding r first number old new waiting
       → ((d : ℕ) → d < 2 * length r.edges → (e : ℕ) × (e < 2 * length r.edges) × (signed_edge r.edges e ≡ turn (map_of_rotation r) (signed_edge r.edges d)))
       → AreMarked r.edges (component (map_of_rotation r) (signed_edge r.edges first)) number old new
-  unfolding IsClosed
   flooding_done new waiting none m turn_of =
       let in_part : ℤ → Bool = has_edge (component (map_of_rotation r) (signed_edge r.edges first)) in
       let has_number : ℤ → Bool = λ x. marked r.edges number new (2 * length r.edges) x && in_part x in
@@ -308,7 +308,7 @@ module _ (r : RotationRows) (is : IsRotation r) (first number : ℕ) (old : List
       record {
         size = m.size;
         inside = λ d q on.
-            let has_it : has_number (signed_edge r.edges d) ≡ true = among has_number (component (map_of_rotation r) (signed_edge r.edges first)) (signed_edge r.edges d) (component-least (map_of_rotation r) has_number closed (signed_edge r.edges first) begins) on in
+            let has_it : has_number (signed_edge r.edges d) ≡ true = among same_edges has_number (component (map_of_rotation r) (signed_edge r.edges first)) (signed_edge r.edges d) (component-least (map_of_rotation r) has_number closed (signed_edge r.edges first) begins) on in
             let e = marked_from r.edges number new (2 * length r.edges) (signed_edge r.edges d) (and_parts (marked r.edges number new (2 * length r.edges) (signed_edge r.edges d)) (in_part (signed_edge r.edges d)) has_it).0 in
             subst (λ k. number_at new k ≡ Some number) {x = e.0} (sym (one_dart r is d e.0 q e.1 e.2)) e.3;
         outside = m.outside;

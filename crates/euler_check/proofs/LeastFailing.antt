@@ -4,14 +4,15 @@ use Rattle.std.specs.Prelude.{find, nat_le, nat_lt, option_map, if◌then◌else
 use Rattle.std.proofs.lemmas.Bool.{cases_Bool, cases_eq, both_ways, or_left, le-ltb, leb-true, leb-false}
 use Rattle.std.proofs.lemmas.List.Folds.{list_all-map}
 use Rattle.topo_base.specs.SignedEdge.{comes_before, edge_of, is_forward, reverse, same_edge}
+use Rattle.orbits.specs.Components as sets
+use Rattle.orbits.proofs.Lists.{from_filter, in_filter}
 use Rattle.plane_model.specs.declared.rows.EdgeRow.{EdgeRow}
 use Rattle.plane_model.specs.Sets.{has_edge}
 use Rattle.plane_model.specs.Orders.{is_rising_edges}
 use Rattle.plane_model.specs.PlaneMap.{signed_edges, smallest}
 use Rattle.plane_model.specs.Component.{grown_by, component, components, is_plane_component, node_count, edge_count, ring_count}
 use Rattle.plane_model.specs.Faults.{not_plane}
-use Rattle.plane_model.proofs.SetLaws.{same_self}
-use Rattle.plane_model.proofs.Closed.{from_filter, in_filter}
+use Rattle.plane_model.proofs.SetLaws.{same_self, same_edges}
 use Rattle.plane_model.proofs.Sorting.{none_found, rising-all, rising_strictly}
 use Rattle.plane_model.proofs.SortedEdges.{not_before, rising_filter, same_rank, same_rising_edges, signed_edges_rise, smallest_found, smallest_least}
 use Rattle.plane_model.proofs.RotationOrbits.{edge_of-reverse, name_there, reverse-reverse}
@@ -97,7 +98,7 @@ module _ (r : RotationRows) (is : IsRotation r) where
 
   -- a component rises, and so components with the same members are one list
   rising_rounds : (n : ℕ) (d : ℤ) → is_rising_edges (grown_by n (map_of_rotation r) (d ∷ [])) ≡ true
-  unfolding grown_by
+  unfolding sets.grown_by
   rising_rounds zero d = refl
   rising_rounds (suc n) d = rising_filter _ (signed_edges (map_of_rotation r)) rising_signed
 
@@ -188,10 +189,10 @@ module _ (r : RotationRows) (is : IsRotation r) where
     found_least =
         smallest_found (λ d. not (is_plane_component (map_of_rotation r) d)) (components (map_of_rotation r)) (rising_filter _ (signed_edges (map_of_rotation r)) rising_signed) (signed_edge r.edges dart)
         (record {
-          there = in_filter (λ e. same_edge e (smallest e (component (map_of_rotation r) e))) (signed_edges (map_of_rotation r)) (signed_edge r.edges dart) own_name d_there;
+          there = in_filter same_edges (λ e. same_edge e (smallest e (component (map_of_rotation r) e))) (signed_edges (map_of_rotation r)) (signed_edge r.edges dart) own_name d_there;
           passes = least.fails_there;
           least = λ e on failing.
-              let there = (from_filter (λ e. same_edge e (smallest e (component (map_of_rotation r) e))) (signed_edges (map_of_rotation r)) e on).1 in
+              let there = (from_filter same_edges (λ e. same_edge e (smallest e (component (map_of_rotation r) e))) (signed_edges (map_of_rotation r)) e on).1 in
               not_first (signed_edge r.edges dart) e forward (least_edge e there failing);
         })
 
@@ -199,7 +200,7 @@ module _ (r : RotationRows) (is : IsRotation r) where
   found_none all =
       none_found (λ d. not (is_plane_component (map_of_rotation r) d)) (components (map_of_rotation r))
       (all_by (λ d. not (not (is_plane_component (map_of_rotation r) d))) (components (map_of_rotation r)) (λ e on.
-      let there = (from_filter (λ e. same_edge e (smallest e (component (map_of_rotation r) e))) (signed_edges (map_of_rotation r)) e on).1 in
+      let there = (from_filter same_edges (λ e. same_edge e (smallest e (component (map_of_rotation r) e))) (signed_edges (map_of_rotation r)) e on).1 in
       let f = forward_of e there in
       not_of (not (is_plane_component (map_of_rotation r) e)) (ap not f.alike ∙ all f.row f.within)))
 

@@ -4,15 +4,16 @@ use Rattle.std.specs.Prelude.{flat_map, sum_by}
 use Rattle.std.proofs.lemmas.List.{length-append}
 use Rattle.std.proofs.lemmas.List.Sums.{sum_by-append}
 use Rattle.topo_base.specs.SignedEdge.{same_edge}
+use Rattle.orbits.proofs.Lists.{from_filter, apart_kept}
+use Rattle.plane_model.proofs.SetLaws.{same_edges}
 use Rattle.plane_model.specs.Component.{component, components}
 use Rattle.plane_model.specs.Orders.{AreNames, Permutes}
 use Rattle.plane_model.specs.PlaneMap.{map_of, ring, rings, signed_edges, smallest, until_return}
 use Rattle.plane_model.specs.Rotation.{is_rotation}
 use Rattle.plane_model.specs.Rows.{Rows}
 use Rattle.plane_model.specs.Sets.{is_distinct_edges}
-use Rattle.plane_model.proofs.Closed.{from_filter}
 use Rattle.plane_model.proofs.ComponentParts.{orbit_partition}
-use Rattle.plane_model.proofs.RotationOrbits.{Parts, apart_kept, name_one, name_there, named}
+use Rattle.plane_model.proofs.RotationOrbits.{Parts, name_one, name_there, named}
 use Rattle.plane_model.proofs.Sums.{all_components, all_parts, all_rings}
 use Rattle.euler_check.specs.Orbits.{orbit_names}
 
@@ -38,7 +39,7 @@ orbits_named us step permutes =
     let parts : Parts us (λ d. until_return (length us) step d d) =
     record { own = p.own; inside = p.inside; same = λ d x there on y. p.same x d x (p.inside d x there on) there (p.own x (p.inside d x there on)) on y } in
     record {
-      among = λ r on. (from_filter (λ e. same_edge e (smallest e (until_return (length us) step e e))) us r on).1;
+      among = λ r on. (from_filter same_edges (λ e. same_edge e (smallest e (until_return (length us) step e e))) us r on).1;
       there = λ d there.
           let n = name_there us (λ d. until_return (length us) step d d) parts d there in
           (smallest d (until_return (length us) step d d), n.0, parts.same d (smallest d (until_return (length us) step d d)) there n.1 d ∙ p.own d there);
@@ -48,4 +49,4 @@ orbits_named us step permutes =
 pub orbit_lengths : (us : List ℤ) (step : ℤ → ℤ) → is_distinct_edges us ≡ true → Permutes us step → sum_by (λ d. length (until_return (length us) step d d)) (orbit_names us step) ≡ length us
 orbit_lengths us step apart permutes =
     sum-flat (λ d. until_return (length us) step d d) (orbit_names us step)
-    ∙ (all_parts us (λ d. until_return (length us) step d d) (orbit_names us step) apart (apart_kept (λ e. same_edge e (smallest e (until_return (length us) step e e))) us apart) (orbit_partition us step permutes) (orbits_named us step permutes)).as_many
+    ∙ (all_parts us (λ d. until_return (length us) step d d) (orbit_names us step) apart (apart_kept same_edges (λ e. same_edge e (smallest e (until_return (length us) step e e))) us apart) (orbit_partition us step permutes) (orbits_named us step permutes)).as_many

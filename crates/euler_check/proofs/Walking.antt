@@ -4,11 +4,12 @@ use Rattle.std.proofs.Math.ListN.{set, length-set}
 use Rattle.std.proofs.lemmas.Bool.{cases_Bool, cases_eq, or_cases, both_ways}
 use Rattle.std.proofs.lemmas.List.{get_or-set_same, get_or-set_other}
 use Rattle.topo_base.specs.SignedEdge.{same_edge}
+use Rattle.orbits.specs.Walks as walks
+use Rattle.orbits.proofs.Orbits.{orbit_own, orbit_step}
 use Rattle.plane_model.specs.Rows.{Rows}
 use Rattle.plane_model.specs.Sets.{has_edge}
 use Rattle.plane_model.specs.PlaneMap.{signed_edges, next, ring, until_return}
-use Rattle.plane_model.proofs.SetLaws.{same_is, same_self}
-use Rattle.plane_model.proofs.Orbits.{orbit_own, orbit_step}
+use Rattle.plane_model.proofs.SetLaws.{same_is, same_self, same_edges}
 use Rattle.plane_model.proofs.RotationOrbits.{next_permutes}
 use Rattle.rotation_check.specs.Darts.{RotationRows, IsRotation, map_of_rotation, signed_edge}
 use Rattle.rotation_check.proofs.DartLists.{signed_there}
@@ -22,7 +23,7 @@ own_rows r = record { nodes = r.nodes; edges = r.edges; faces = []; regions = []
 
 -- a signed edge of a walk is its beginning, or behind it
 on_walk : (n : ℕ) (step : ℤ → ℤ) (first d x : ℤ) → has_edge (until_return (suc n) step first d) x ≡ true → (x ≡ d) ⊎ ((same_edge (step d) first ≡ false) × (has_edge (until_return n step first (step d)) x ≡ true))
-unfolding until_return
+unfolding walks.until_return
 on_walk n step first d x h = elim (or_cases (same_edge x d) _ h) [
   | inl here ↦ inl (same_is x d here)
   | inr more ↦ elim (cases_Bool (same_edge (step d) first)) [
@@ -32,7 +33,7 @@ on_walk n step first d x h = elim (or_cases (same_edge x d) _ h) [
 ]
 
 none_on : (step : ℤ → ℤ) (first d x : ℤ) → has_edge (until_return 0 step first d) x ≡ true → ⊥
-unfolding until_return
+unfolding walks.until_return
 none_on step first d x h = both_ways false refl h
 
 -- darts of the ring that the walk has still to come to, or that have the number
@@ -57,7 +58,7 @@ module _ (r : RotationRows) (is : IsRotation r) where
       record {
         within = h;
         size = refl;
-        on = orbit_own (signed_edges (map_of_rotation r)) (next (map_of_rotation r)) (signed_edge r.edges first) (there first h);
+        on = orbit_own same_edges (signed_edges (map_of_rotation r)) (next (map_of_rotation r)) (signed_edge r.edges first) (there first h);
         left = λ d q on. inl (subst (λ n. has_edge (until_return n (next (map_of_rotation r)) (signed_edge r.edges first) (signed_edge r.edges first)) (signed_edge r.edges d) ≡ true) fuel on);
         outside = λ d q off. refl;
       }
@@ -99,7 +100,7 @@ module _ (r : RotationRows) (is : IsRotation r) where
         within = within;
         size = length-set new dart (Some number) ∙ m.size;
         on = subst (λ x. has_edge (ring (map_of_rotation r) (signed_edge r.edges first)) x ≡ true) (sym step)
-            (orbit_step (signed_edges (map_of_rotation r)) (next (map_of_rotation r)) (next_permutes (own_rows r) is.rotation) (signed_edge r.edges first) (signed_edge r.edges dart) (there first h) m.on);
+            (orbit_step same_edges (signed_edges (map_of_rotation r)) (next (map_of_rotation r)) (next_permutes (own_rows r) is.rotation) (signed_edge r.edges first) (signed_edge r.edges dart) (there first h) m.on);
         left = λ d q on. elim (numbered first number (2 * length r.edges - (i + 1)) dart d old new size m' q on) [
           | inl further ↦ inl (subst (λ x. has_edge (until_return (2 * length r.edges - (i + 1)) (next (map_of_rotation r)) (signed_edge r.edges first) x) (signed_edge r.edges d) ≡ true) (sym step) further.1)
           | inr has ↦ inr has
