@@ -5,6 +5,8 @@ use Rattle.std.specs.List.{filter, Contains, AllPairs}
 use Rattle.std.specs.List.Sorted.{IsStrictlyIncreasing}
 use Rattle.std.proofs.lemmas.Bool.{eqb-true, or_cases, cases_Bool, or_left, or_right, both_ways, not-true}
 use Rattle.std.proofs.lemmas.List.Kept.{AllPairs-from_increasing}
+use Rattle.orbits.proofs.Lists.{in_filter, from_filter}
+use Rattle.orbits.proofs.Numbers.{same_numbers}
 use Rattle.plane_model.specs.Sets.{has}
 use Rattle.islands.specs.Lists.{AreLists, listed}
 use Rattle.islands.specs.Rounds.{AreIncreasing, AreRoundRings, is_fresh, fresh_on}
@@ -38,21 +40,7 @@ increases_from (x ∷ xs) p = (
 )
 
 pub has_filter : (p : ℕ → Bool) (xs : List ℕ) (x : ℕ) → has xs x ≡ true → p x ≡ true → has (filter p xs) x ≡ true
-has_filter p [] x h k = cc
-has_filter p (y ∷ xs) x h k = elim (or_cases (x == y) (has xs x) h) [
-  | inl is ↦ let e : p y ≡ true = subst (λ z. p z ≡ true) (eqb-true x y is) k in rw e (or_left (x == y) _ is)
-  | inr more ↦ elim (cases_Bool (p y)) [ inl e ↦ rw e (or_right (x == y) _ (has_filter p xs x more k)) | inr e ↦ rw e (has_filter p xs x more k) ]
-]
-
-pub filter_has : (p : ℕ → Bool) (xs : List ℕ) (x : ℕ) → has (filter p xs) x ≡ true → (p x ≡ true) × (has xs x ≡ true)
-filter_has p [] x h = absurd (both_ways false refl h)
-filter_has p (y ∷ xs) x h = elim (cases_Bool (p y)) [
-  | inl e ↦ let h' : ((x == y) || has (filter p xs) x) ≡ true = rw e at h in elim (or_cases (x == y) (has (filter p xs) x) h') [
-    | inl is ↦ (subst (λ z. p z ≡ true) (sym (eqb-true x y is)) e, or_left _ _ is)
-    | inr more ↦ let r = filter_has p xs x more in (r.0, or_right (x == y) _ r.1)
-  ]
-  | inr e ↦ let h' : has (filter p xs) x ≡ true = rw e at h in let r = filter_has p xs x h' in (r.0, or_right (x == y) _ r.1)
-]
+has_filter p xs x h k = in_filter same_numbers p xs x k h
 
 in_flat : (g : ℕ → List ℕ) (fs : List ℕ) (f x : ℕ) → has fs f ≡ true → has (g f) x ≡ true → has (flat_map g fs) x ≡ true
 in_flat g [] f x h k = cc
@@ -78,7 +66,7 @@ round_of faces components front reached lists found now e up all only by_face =
       sound = λ i on.
           let in_found : has (flat_map g front) i ≡ true = subst (λ xs. has xs i ≡ true) e (has_from_Contains found i (only i (Contains_from_has now i on))) in
           let f = from_flat g front i in_found in
-          let it = filter_has fresh (listed lists f.0) i f.2 in
+          let it = from_filter same_numbers fresh (listed lists f.0) i f.2 in
           let key = by_face.sound f.0 i it.1 in
           (key.0, subst (λ z. has front z ≡ true) (sym key.1) f.1, not-true (slice_index_or reached (slice_index components i) false) it.0);
       complete = λ i below on unreached.

@@ -9,11 +9,13 @@ use Rattle.std.proofs.lemmas.Bool.{and_parts, and_from, cases_Bool, cases_lt, bo
 use Rattle.std.proofs.lemmas.Bool.Decides.{nat_tests}
 use Rattle.std.proofs.lemmas.List.{take_more, map-append, get_or_default}
 use Rattle.std.proofs.lemmas.List.Sorted.{searched}
+use Rattle.orbits.proofs.Lists.{from_filter, apart_kept}
+use Rattle.orbits.proofs.Numbers.{same_numbers}
 use Rattle.plane_model.specs.declared.rows.FaceRow.{FaceRow}
 use Rattle.plane_model.specs.Sets.{has, is_distinct, put, rising}
 use Rattle.plane_model.specs.Orders.{is_strictly_rising}
 use Rattle.plane_model.proofs.Sorting.{among, all_from, rising-all, rising_strictly, sorted_from_rises, strictly_is_rising}
-use Rattle.islands.proofs.Collected.{Contains_from_has, filter_has, has_index}
+use Rattle.islands.proofs.Collected.{Contains_from_has, has_index}
 
 -- the ids other than 0
 abbrev pub other_ids : List FaceRow → List ℕ
@@ -56,24 +58,13 @@ not_missing xs x i on gap =
     let is : get_or xs at.0 0 ≡ x = get_or_default xs at.0 0 x lt ∙ at.2 in
     elim (cases_lt at.0 i) [ inl less ↦ (let a = gap.1 at.0 less in omega arith) | inr ge ↦ (let a = gap.2 at.0 ge lt in omega arith) ]
 
-distinct_filter : (p : ℕ → Bool) (xs : List ℕ) → is_distinct xs ≡ true → is_distinct (filter p xs) ≡ true
-distinct_filter p [] h = refl
-distinct_filter p (x ∷ xs) h =
-    let parts = and_parts (not (has xs x)) (is_distinct xs) h in
-    elim (cases_Bool (p x)) [
-      | inl e ↦ rw e (and_from (not (has (filter p xs) x)) (is_distinct (filter p xs))
-          (elim (cases_Bool (has (filter p xs) x)) [ inl on ↦ absurd (both_ways (has xs x) (not-true _ parts.0) (filter_has p xs x on).1) | inr off ↦ rw off refl ])
-          (distinct_filter p xs parts.1))
-      | inr e ↦ rw e (distinct_filter p xs parts.1)
-    ]
-
 pub ids_rise : (faces : List FaceRow) → is_distinct (map (λ r. r.id) faces) ≡ true → is_strictly_rising (0 ∷ rising (other_ids faces)) ≡ true
 ids_rise faces h =
     let ids : List ℕ = map (λ (r : FaceRow). r.id) faces in
     let p : ℕ → Bool = λ f. not (f == 0) in
     and_from (list_all (nat_lt 0) (rising (other_ids faces))) (is_strictly_rising (rising (other_ids faces)))
-    (rising-all (nat_lt 0) (other_ids faces) ∙ all_from (nat_lt 0) (other_ids faces) (λ x on. let it = (filter_has p ids x on).0 in grind (arith, nat_tests)))
-    (rising_strictly (other_ids faces) (distinct_filter p ids h))
+    (rising-all (nat_lt 0) (other_ids faces) ∙ all_from (nat_lt 0) (other_ids faces) (λ x on. let it = (from_filter same_numbers p ids x on).0 in grind (arith, nat_tests)))
+    (rising_strictly (other_ids faces) (apart_kept same_numbers p ids h))
 
 filter_push : (p : ℕ → Bool) (xs : List ℕ) (x : ℕ) → filter p (xs ++ x ∷ []) ≡ filter p xs ++ (if p x then x ∷ [] else [])
 filter_push p [] x = elim (cases_Bool (p x)) [ inl e ↦ rw e refl | inr e ↦ rw e refl ]

@@ -4,8 +4,8 @@ use Rattle.std.specs.Prelude.{find, slice_set, slice_index}
 use Rattle.std.specs.List.{list_any}
 use Rattle.std.proofs.lemmas.Bool.Decides.{nat_tests}
 use Rattle.std.proofs.lemmas.List.{take_more}
+use Rattle.orbits.proofs.Lists.{same_tests}
 use Rattle.plane_model.specs.Sets.{has, or_else}
-use Rattle.plane_model.proofs.FaultParts.{same_tests}
 use Rattle.islands.specs.Rounds.{is_marked}
 use Rattle.islands.proofs.Opening.{last_has, has_last, set_on, set_stays, set_only, set_length}
 use Rattle.islands.proofs.Members.{has_front}

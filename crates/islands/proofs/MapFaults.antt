@@ -7,6 +7,8 @@ use Rattle.std.proofs.lemmas.List.{length-map, get_or-map, get_or_default}
 use Rattle.topo_base.specs.SignedEdge.{edge_of}
 use Rattle.topo_base.specs.declared.refusal.Refusal.{Refusal}
 use Rattle.topo_base.specs.declared.refusal.Refusal.TheVariants as refusal
+use Rattle.orbits.proofs.Lists.{same_tests, any_from}
+use Rattle.plane_model.proofs.SetLaws.{same_edges}
 use Rattle.plane_model.specs.declared.rows.EdgeRow.{EdgeRow}
 use Rattle.plane_model.specs.declared.rows.FaceRow.{FaceRow}
 use Rattle.plane_model.specs.Sets.{has, has_edge, or_else}
@@ -14,11 +16,9 @@ use Rattle.plane_model.specs.PlaneMap.{PlaneMap, signed_edges, smallest, side, r
 use Rattle.plane_model.specs.Component.{component, components}
 use Rattle.plane_model.specs.Faces.{is_reached, is_on_ring, outer_rings}
 use Rattle.plane_model.specs.Faults.{unless, unplaced, bare_face, face_cycle, placement_fault}
-use Rattle.plane_model.proofs.FaultParts.{same_tests}
 use Rattle.rotation_check.specs.Darts.{RotationRows, signed_edge}
 use Rattle.euler_check.specs.Numbers.{Numbers}
 use Rattle.placement_laws.proofs.Parts.{parts_of, component_self, components-rings, rings-signed, ring_name-on, ring_name-there, ring_side}
-use Rattle.placement_laws.proofs.Lists.{edge_any}
 use Rattle.islands.specs.declared.numbers.NumberedMap.{NumberedMap}
 use Rattle.islands.specs.Rounds.{is_marked}
 use Rattle.islands.specs.Numbered.{ring_at}
@@ -125,7 +125,7 @@ module _ (r : RotationRows) (faces : List FaceRow) (numbers : Numbers) (n : Numb
       let lt : i.0 < length n.face_of.items = i.1 in
       let face : slice_index n.face_of.items i.0 ≡ k = get_or_default n.face_of.items i.0 0 k lt ∙ i.2 in
       let its : side m (ring_at m i.0) ≡ f = is.numbered.sides i.0 lt ∙ ap (slice_index ids) face in
-      edge_any (λ d. side m d == f) (signed_edges m) (ring_at m i.0) (rings-signed m (ring_at m i.0) (ring_in m i.0 (omega arith))) (eq-eqb (side m (ring_at m i.0)) f its))
+      any_from same_edges (λ d. side m d == f) (signed_edges m) (ring_at m i.0) (rings-signed m (ring_at m i.0) (ring_in m i.0 (omega arith))) (eq-eqb (side m (ring_at m i.0)) f its))
       (λ on.
       let d = any_edge (λ d. side m d == f) (signed_edges m) on in
       let name : ℤ = smallest d.0 (ring m d.0) in

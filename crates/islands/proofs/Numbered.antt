@@ -4,15 +4,14 @@ use Rattle.std.specs.Prelude.{slice_index, slice_index_or}
 use Rattle.std.proofs.lemmas.Bool.{eqb-true, and_parts, and_from, or_cases, cases_Bool, or_left, or_right, both_ways, not-true, false_from_ne_true}
 use Rattle.topo_base.specs.SignedEdge.{comes_before}
 use Rattle.std.specs.List.{list_all}
+use Rattle.orbits.proofs.Lists.{among, in_filter, from_filter, same_tests, all_from}
+use Rattle.plane_model.proofs.SetLaws.{same_edges}
 use Rattle.plane_model.specs.Rows.{Rows}
 use Rattle.plane_model.specs.Sets.{has, has_edge}
 use Rattle.plane_model.specs.PlaneMap.{PlaneMap, map_of, signed_edges, smallest, side, ring, rings}
 use Rattle.plane_model.specs.Component.{component, components}
 use Rattle.plane_model.specs.Faces.{of_components}
 use Rattle.plane_model.specs.Orders.{is_rising_edges}
-use Rattle.plane_model.proofs.SetLaws.{among}
-use Rattle.plane_model.proofs.Closed.{in_filter, from_filter}
-use Rattle.plane_model.proofs.FaultParts.{same_tests}
 use Rattle.plane_model.proofs.Rounds.{in_component, from_component, from_sides}
 use Rattle.plane_model.proofs.OuterRings.{has_side}
 use Rattle.plane_model.proofs.SortedEdges.{rising_filter, same_rising_edges}
@@ -20,7 +19,6 @@ use Rattle.placement_laws.specs.Placing.{IsLabelledRotation}
 use Rattle.placement_laws.specs.PlacedSoFar.{IsPlacedSoFar, IsNextFront, round_starts}
 use Rattle.placement_laws.proofs.Parts.{HasParts, parts_of, component_within, component_sub, ring_name-on, ring_name-there, ring_component, ring_side, rings-signed}
 use Rattle.placement_laws.proofs.Tables.{rise_of}
-use Rattle.placement_laws.proofs.Lists.{edges_all}
 use Rattle.placement_laws.proofs.EachRound.{place_begin, place_round, place_end}
 use Rattle.islands.proofs.Members.{has_front, has_back, has_either, named, to_name, numbered, to_number, at, at_in, in_at, ring_in}
 use Rattle.islands.specs.Numbered.{ring_at, AreNumbered, AreBelow}
@@ -30,7 +28,7 @@ use Rattle.islands.specs.Starts.{AreOuterRings}
 pub at_order : (xs : List ℤ) → is_rising_edges xs ≡ true → (i j : ℕ) → i < j → j < length xs → comes_before (at xs i) (at xs j) ≡ true
 at_order [] up i j lt below = absurd (omega arith)
 at_order (x ∷ xs) up i zero lt below = absurd (omega arith)
-at_order (x ∷ xs) up zero (suc j) lt below = among (comes_before x) xs (at xs j) (and_parts (list_all (comes_before x) xs) (is_rising_edges xs) up).0 (at_in xs j (omega arith))
+at_order (x ∷ xs) up zero (suc j) lt below = among same_edges (comes_before x) xs (at xs j) (and_parts (list_all (comes_before x) xs) (is_rising_edges xs) up).0 (at_in xs j (omega arith))
 at_order (x ∷ xs) up (suc i) (suc j) lt below = at_order xs (and_parts (list_all (comes_before x) xs) (is_rising_edges xs) up).1 i j (omega arith) (omega arith)
 
 ring_no : (m : PlaneMap) (r : ℤ) → has_edge (rings m) r ≡ true → (i : ℕ) × (i < length (rings m)) × (ring_at m i ≡ r)
@@ -43,7 +41,7 @@ map_rises : (m : PlaneMap) → is_rising_edges (rings m) ≡ true → (now : Lis
 map_rises m up [] below h = refl
 map_rises m up (x ∷ now) below h =
     and_from (list_all (comes_before (ring_at m x)) (map (ring_at m) now)) (is_rising_edges (map (ring_at m) now))
-    (edges_all (comes_before (ring_at m x)) (map (ring_at m) now) (λ e on. let i = named (ring_at m) now e on in subst (λ z. comes_before (ring_at m x) z ≡ true) i.2 (ring_order m up x i.0 (h.0 i.0 i.1) (below i.0 (or_right (i.0 == x) _ i.1)))))
+    (all_from same_edges (comes_before (ring_at m x)) (map (ring_at m) now) (λ e on. let i = named (ring_at m) now e on in subst (λ z. comes_before (ring_at m x) z ≡ true) i.2 (ring_order m up x i.0 (h.0 i.0 i.1) (below i.0 (or_right (i.0 == x) _ i.1)))))
     (map_rises m up now (λ i on. below i (or_right (i == x) _ on)) h.1)
 
 -- the components of the starts are marked
@@ -61,7 +59,7 @@ round_is m up id faces components count n face_below front starts reached now fr
     (map_rises m up now (λ i on. let it = these.sound i on in let lt : i < length faces = it.0 in omega arith) these.increases)
     (λ d. same_tests (has_edge (filter test (rings m)) d) (has_edge (map (ring_at m) now) d)
     (λ on.
-    let it = from_filter test (rings m) d on in
+    let it = from_filter same_edges test (rings m) d on in
     let parts = and_parts (has (map id front) (side m d)) (not (has_edge (of_components m (map (ring_at m) starts)) d)) it.0 in
     let i = ring_no m d it.1 in
     let below' : i.0 < length (rings m) = i.1 in
@@ -78,7 +76,7 @@ round_is m up id faces components count n face_below front starts reached now fr
     let i = named (ring_at m) now d on in
     let it = these.sound i.0 i.1 in
     let below : i.0 < length faces = it.0 in
-    subst (λ z. has_edge (filter test (rings m)) z ≡ true) i.2 (in_filter test (rings m) (ring_at m i.0) (and_from (has (map id front) (side m (ring_at m i.0))) (not (has_edge (of_components m (map (ring_at m) starts)) (ring_at m i.0)))
+    subst (λ z. has_edge (filter test (rings m)) z ≡ true) i.2 (in_filter same_edges test (rings m) (ring_at m i.0) (and_from (has (map id front) (side m (ring_at m i.0))) (not (has_edge (of_components m (map (ring_at m) starts)) (ring_at m i.0)))
     (subst (λ z. has (map id front) z ≡ true) (sym (n.sides i.0 below)) (to_number id front (slice_index faces i.0) it.1))
     (rw (false_from_ne_true (has_edge (of_components m (map (ring_at m) starts)) (ring_at m i.0)) (λ was.
     let t = from_component m (map (ring_at m) starts) (ring_at m i.0) was in

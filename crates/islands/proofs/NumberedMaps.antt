@@ -4,6 +4,8 @@ use Rattle.std.specs.Prelude.{slice_index, ◌↔◌, IsTrue}
 use Rattle.std.proofs.lemmas.Bool.{eqb-true, cases_Bool}
 use Rattle.std.proofs.lemmas.List.{length-map, get_or-map}
 use Rattle.topo_base.specs.SignedEdge.{same_edge}
+use Rattle.orbits.proofs.Lists.{among, same_tests}
+use Rattle.plane_model.proofs.SetLaws.{same_edges}
 use Rattle.plane_model.specs.declared.rows.EdgeRow.{EdgeRow}
 use Rattle.plane_model.specs.declared.rows.FaceRow.{FaceRow}
 use Rattle.plane_model.specs.Sets.{has, has_edge, rising}
@@ -12,8 +14,6 @@ use Rattle.plane_model.specs.Rotation.{is_face}
 use Rattle.plane_model.specs.Component.{component, components}
 use Rattle.plane_model.specs.Faces.{is_labelled}
 use Rattle.plane_model.specs.Orders.{is_strictly_rising}
-use Rattle.plane_model.proofs.SetLaws.{among}
-use Rattle.plane_model.proofs.FaultParts.{same_tests}
 use Rattle.plane_model.proofs.Alone.{rotation-alone, labelled-alone, rings-alone, component-alone, components-alone}
 use Rattle.rotation_check.specs.Darts.{RotationRows, IsRotation, map_of_rotation, signed_edge}
 use Rattle.rotation_check.proofs.DartLists.{signed_there, number_of-signed, dart_edges, length-dart_edges}
@@ -42,7 +42,7 @@ labelled_system r faces is labelled of_faces =
 pub side_there : (r : RotationRows) (faces : List FaceRow) → AreFacesOf r faces → (dart : ℕ) → dart < 2 * length r.edges → has (0 ∷ rising (other_ids faces)) (side (map_of_rotation r) (signed_edge r.edges dart)) ≡ true
 side_there r faces of_faces dart h =
     let m = map_with_faces r faces in
-    among (λ d. is_face m (side m d)) (signed_edges m) (signed_edge r.edges dart) of_faces.there (signed_there (rows_with_faces r faces) dart h)
+    among same_edges (λ d. is_face m (side m d)) (signed_edges m) (signed_edge r.edges dart) of_faces.there (signed_there (rows_with_faces r faces) dart h)
 
 pub numbers_with_faces : (r : RotationRows) (faces : List FaceRow) (numbers : Numbers) → AreNumbers r.edges (component (map_of_rotation r)) numbers → AreNumbers r.edges (component (map_with_faces r faces)) numbers
 numbers_with_faces r faces numbers are =

@@ -3,13 +3,13 @@ use Rattle.std.proofs.Common.{◌≡◌, ℕ, ◌<◌, inl, inr, ℤ, Bool, true
 use Rattle.std.specs.Prelude.{slice_index}
 use Rattle.std.specs.List.{list_any}
 use Rattle.std.proofs.lemmas.Bool.{eqb-true, or_cases, or_left, or_right, both_ways}
+use Rattle.orbits.proofs.Lists.{same_tests, any_from}
+use Rattle.plane_model.proofs.SetLaws.{same_edges}
 use Rattle.plane_model.specs.Sets.{has, has_edge}
 use Rattle.plane_model.specs.PlaneMap.{PlaneMap, signed_edges}
 use Rattle.plane_model.specs.Component.{component}
 use Rattle.plane_model.specs.Faces.{is_reached, outer_rings}
-use Rattle.plane_model.proofs.FaultParts.{same_tests}
 use Rattle.placement_laws.proofs.Parts.{HasParts, component_sub, component_sym, rings-signed}
-use Rattle.placement_laws.proofs.Lists.{edge_any}
 use Rattle.islands.specs.Numbered.{AreNumbered, ring_at}
 use Rattle.islands.proofs.Members.{named, to_name, ring_in, any_edge}
 
@@ -44,4 +44,4 @@ reached_of_starts m g id faces components count n starts below e i d lt on =
     let s = some_has (λ x. slice_index components x == slice_index components i) starts h in
     let s_below = below s.0 s.1 in
     let both : has_edge (component m (ring_at m s.0)) (ring_at m i) ≡ true = n.together s.0 i s_below lt ∙ s.2 in
-    edge_any (λ r. has_edge (component m r) d) (outer_rings m) (ring_at m s.0) (subst (λ rs. has_edge rs (ring_at m s.0) ≡ true) e (to_name (ring_at m) starts s.0 s.1)) (component_sub m g (ring_at m s.0) (ring_at m i) d (signed s.0 s_below) both on))
+    any_from same_edges (λ r. has_edge (component m r) d) (outer_rings m) (ring_at m s.0) (subst (λ rs. has_edge rs (ring_at m s.0) ≡ true) e (to_name (ring_at m) starts s.0 s.1)) (component_sub m g (ring_at m s.0) (ring_at m i) d (signed s.0 s_below) both on))
