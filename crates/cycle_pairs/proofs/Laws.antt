@@ -86,7 +86,7 @@ restricted m n next mate at perm p below follows meets most =
     most_colours n mate (λ i. least_of next m (at i)) p
     (λ i lt.
     least_of_meet m next perm (at (after_mate n mate i)) (at i)
-    (below (after_mate n mate i) ((after_permuted n mate p).in_range i lt)) (below i lt) (follows i lt))
+    (below (after_mate n mate i) ((after_permuted n mate p).stays i lt)) (below i lt) (follows i lt))
     (omega (
       arith,
       carried (least_of next m) (λ i. least_of next m (at i)) m n

@@ -30,13 +30,13 @@ least_is f (suc n) i =
 module _ (n : ℕ) (f : ℕ → ℕ) (p : IsPermuted n f) where
   pub iterate_range : (k i : ℕ) → i < n → iterate f k i < n
   iterate_range zero i lt = lt
-  iterate_range (suc k) i lt = p.in_range (iterate f k i) (iterate_range k i lt)
+  iterate_range (suc k) i lt = p.stays (iterate f k i) (iterate_range k i lt)
 
   cancel : (a d i : ℕ) → i < n → iterate f a i ≡ iterate f (a + d) i → i ≡ iterate f d i
   cancel zero d i lt e = e ∙ ap (λ k. iterate f k i) (zero-add d)
   cancel (suc a) d i lt e =
       cancel a d i lt
-      (p.injective (iterate f a i) (iterate f (a + d) i) (iterate_range a i lt) (iterate_range (a + d) i lt)
+      (p.one (iterate f a i) (iterate f (a + d) i) (iterate_range a i lt) (iterate_range (a + d) i lt)
       (e ∙ ap (λ k. iterate f k i) (suc-add a d)))
 
   -- f leads back after at most n steps
@@ -74,7 +74,7 @@ module _ (n : ℕ) (f : ℕ → ℕ) (p : IsPermuted n f) where
       let round : i ≡ iterate f q.0 (f i) = sym q.2 ∙ ap (λ k. iterate f k i) (let e : suc q.0 ≡ q.0 + 1 = omega arith in e) ∙ iterate-add f q.0 1 i in
       let down : iterate f a.0 i ≡ iterate f (a.0 + q.0) (f i) = ap (iterate f a.0) round ∙ sym (iterate-add f a.0 q.0 (f i)) in
       let l : least_of f n i ≤ iterate f (b.0 + 1) i = least_lower (b.0 + 1) i lt in
-      let m : least_of f n (f i) ≤ iterate f (a.0 + q.0) (f i) = least_lower (a.0 + q.0) (f i) (p.in_range i lt) in
+      let m : least_of f n (f i) ≤ iterate f (a.0 + q.0) (f i) = least_lower (a.0 + q.0) (f i) (p.stays i lt) in
       omega arith
 
   least-iterate : (k i : ℕ) → i < n → least_of f n (iterate f k i) ≡ least_of f n i
@@ -107,11 +107,11 @@ after_cases n a lt =
 
 pub after_permuted : (n : ℕ) (mate : ℕ → ℕ) → IsPairing n mate → IsPermuted n (after_mate n mate)
 after_permuted n mate p = record {
-  in_range = λ i lt. ⊎_elim
+  stays = λ i lt. ⊎_elim
       (λ h. let e : after_mate n mate i ≡ mate i + 1 = h.1 in let l : mate i + 1 < n = h.0 in omega arith)
       (λ h. let e : after_mate n mate i ≡ 0 = h.1 in omega arith)
       (after_cases n (mate i) (p.in_range i lt));
-  injective = λ i j il jl e.
+  one = λ i j il jl e.
       let same : mate i ≡ mate j =
       ⊎_elim
       (λ h. let a : after_mate n mate i ≡ mate i + 1 = h.1 in ⊎_elim

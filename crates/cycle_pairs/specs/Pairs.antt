@@ -1,5 +1,6 @@
 -- Pairs among points on a cycle, whether they nest, and how many orbits the step to the point after the mate has.
 use Rattle.std.specs.Prelude.{◌≡◌, ℕ, zero, suc, ◌+◌, ◌%◌, min, ◌<◌, Bool, false, cond, ◌||◌, nat_eq, nat_lt}
+use Rattle.orbits.specs.Walks as walks
 
 -- `mate` exchanges points of 0 .. n - 1. A point that it leaves where it is belongs to no pair.
 pub record IsPairing (n : ℕ) (mate : ℕ → ℕ) : Type 0 where
@@ -35,8 +36,7 @@ IsKept n mate colour = (i : ℕ) → i < n → colour (after_mate n mate i) ≡ 
 
 -- a step applied k times
 abbrev pub iterate : (ℕ → ℕ) → ℕ → ℕ → ℕ
-iterate step zero i = i
-iterate step (suc k) i = step (iterate step k i)
+iterate step k i = walks.stepped step k i
 
 -- the least of i, step i, .., and the step applied k times
 abbrev pub least_of : (ℕ → ℕ) → ℕ → ℕ → ℕ
@@ -52,6 +52,5 @@ abbrev pub Meet : (ℕ → ℕ) → ℕ → ℕ → Type 0
 Meet step i j = (k l : ℕ) × (iterate step k i ≡ iterate step l j)
 
 -- the step permutes the points 0 .. n - 1
-pub record IsPermuted (n : ℕ) (step : ℕ → ℕ) : Type 0 where
-  pub in_range : (i : ℕ) → i < n → step i < n
-  pub injective : (i j : ℕ) → i < n → j < n → step i ≡ step j → i ≡ j
+abbrev pub IsPermuted : ℕ → (ℕ → ℕ) → Type 0
+IsPermuted n step = walks.Permutes (λ i. i < n) step
