@@ -2,7 +2,7 @@
 use Rattle.std.proofs.Common.{◌≡◌, ◌≢◌, ℕ, zero, suc, ◌+◌, ◌-◌, ◌*◌, ◌<◌, ◌≤◌, ◌⊎◌, Bool, true, false, refl, sym, ◌∙◌, ap, subst, inl, inr, arith}
 use Rattle.std.proofs.lemmas.Bool.{cases_eq, cases_Bool, cases_lt, cases_order, false≢true}
 use Rattle.spanning_pair.specs.Darts.{reverse_dart, turn, turned, IsDartSystem, InComponent}
-use Rattle.spanning_pair.specs.Darts.InComponent.{itself, reversed, turned_on}
+use Rattle.orbits.specs.Components.InComponent.{itself, reversed, turned_on}
 use Rattle.spanning_pair.specs.Walks.{after, IsTreeWalk}
 use Rattle.spanning_pair.proofs.OtherDart.{reverse_reverse, reverse_below}
 
@@ -226,7 +226,6 @@ module _ (m : ℕ) (next node : ℕ → ℕ) (rot : IsDartSystem m next node) (s
       subst (λ x. Stands (turn next x)) s.3 t
 
   stands_turned : (k d : ℕ) → Stands d → Stands (turned next k d)
-  unfolding turned
   stands_turned zero d s = s
   stands_turned (suc k) d s = stands_turn (turned next k d) (stands_turned k d s)
 

@@ -1,7 +1,7 @@
 -- Components are the same seen from each of their darts.
 use Rattle.std.proofs.Common.{◌≡◌, ℕ, zero, suc, ◌*◌, ◌/◌, ◌<◌, sym, subst, inl, inr}
 use Rattle.spanning_pair.specs.Darts.{reverse_dart, turn, turned, IsDartSystem, InComponent}
-use Rattle.spanning_pair.specs.Darts.InComponent.{itself, reversed, turned_on}
+use Rattle.orbits.specs.Components.InComponent.{itself, reversed, turned_on}
 use Rattle.spanning_pair.proofs.OtherDart.{reverse_reverse, reverse_below, half_cases}
 use Rattle.spanning_pair.proofs.ByRule.{node_of_turn}
 
@@ -11,7 +11,6 @@ component_join next a b d h (reversed e c) = reversed e (component_join next a b
 component_join next a b d h (turned_on e c) = turned_on e (component_join next a b e h c)
 
 pub component_turned : (next : ℕ → ℕ) (a d k : ℕ) → InComponent next a d → InComponent next a (turned next k d)
-unfolding turned
 component_turned next a d zero h = h
 component_turned next a d (suc k) h = turned_on (turned next k d) (component_turned next a d k h)
 

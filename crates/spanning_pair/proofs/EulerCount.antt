@@ -1,17 +1,22 @@
 -- The nodes, edges and rings of a component by its walk: nodes − edges + rings is 2 exactly where the pairs of places nest.
-use Rattle.std.proofs.Common.{◌≡◌, ℕ, zero, suc, ◌+◌, ◌-◌, ◌*◌, ◌/◌, ◌<◌, ◌≤◌, ◌⊎◌, ◌↔◌, inl, inr, ℤ, pos, negsuc, Bool, true, not, ◌&&◌, ◌==◌, List, [], ◌∷◌, map, filter, length, get_or, refl, sym, ap, ◌∙◌, subst, arith, eq-eqb}
+use Rattle.std.proofs.Common.{◌≡◌, ℕ, suc, ◌+◌, ◌-◌, ◌*◌, ◌/◌, ◌<◌, ◌≤◌, ◌⊎◌, ◌↔◌, inl, inr, ℤ, pos, negsuc, Bool, true, not, ◌&&◌, ◌==◌, List, ◌∷◌, map, filter, length, get_or, refl, sym, ap, ◌∙◌, subst, arith, eq-eqb}
 use Rattle.std.specs.List.{list_any}
-use Rattle.std.proofs.lemmas.Bool.{and_parts, and_from, or_cases, or_left, or_right, cases_Bool, cases_eq, eqb-true, both_ways}
+use Rattle.std.proofs.lemmas.Bool.{and_parts, and_from, or_left, or_right, cases_Bool, cases_eq, eqb-true}
 use Rattle.std.proofs.lemmas.List.{length-map}
 use Rattle.topo_base.specs.SignedEdge.{edge_of, reverse, same_edge}
+use Rattle.orbits.specs.Walks.{stepped}
+use Rattle.orbits.specs.Renaming.{Carries}
+use Rattle.orbits.proofs.Reached.{on_orbit}
+use Rattle.orbits.proofs.Lists.{in_filter, from_filter, apart_kept, same_length, any_from, some_that}
+use Rattle.orbits.proofs.Numbers.{same_numbers, has_place}
+use Rattle.orbits.proofs.Carried.{steps_carried, named_in, name_in, names_distinct}
+use Rattle.orbits.proofs.Orbits.{orbit_own, orbit_step}
 use Rattle.plane_model.specs.declared.rows.EdgeRow.{EdgeRow}
 use Rattle.plane_model.specs.Sets.{has, has_edge, is_distinct}
-use Rattle.plane_model.specs.PlaneMap.{PlaneMap, signed_edges, next, origin, leaving, until_return, ring, rings, smallest}
+use Rattle.plane_model.specs.PlaneMap.{PlaneMap, signed_edges, next, origin, leaving, ring, rings, smallest}
 use Rattle.plane_model.specs.Component.{node_count, edge_count, ring_count}
-use Rattle.plane_model.proofs.Closed.{in_filter, from_filter}
-use Rattle.plane_model.proofs.Orbits.{orbit_own, orbit_step}
-use Rattle.plane_model.proofs.RotationOrbits.{edge_of-reverse, signed_apart, apart_kept, next_permutes, ring_named, ring_parts, named, name_there}
-use Rattle.plane_model.proofs.SetLaws.{same_is}
+use Rattle.plane_model.proofs.RotationOrbits.{edge_of-reverse, signed_apart, next_permutes, ring_named, ring_parts, named, name_there}
+use Rattle.plane_model.proofs.SetLaws.{same_is, same_edges}
 use Rattle.plane_model.proofs.SortedEdges.{signed-has}
 use Rattle.plane_model.proofs.Sorting.{rising-has, rising_strictly}
 use Rattle.rotation_check.specs.Darts.{RotationRows, IsRotation, map_of_rotation, signed_edge}
@@ -19,14 +24,14 @@ use Rattle.rotation_check.proofs.DartLists.{signed_there}
 use Rattle.rotation_check.proofs.EndLemmas.{one_place, edge_id-get}
 use Rattle.cycle_pairs.specs.Pairs.{Nests, after_mate, colours, Meet}
 use Rattle.cycle_pairs.proofs.Laws.{nests_exactly, colours_orbits}
-use Rattle.cycle_pairs.proofs.Orbits.{after_permuted, iterate-add}
+use Rattle.cycle_pairs.proofs.Orbits.{after_permuted}
 use Rattle.cycle_pairs.proofs.Values.{values_few, values_many}
 use Rattle.spanning_pair.specs.Darts.{reverse_dart, InComponent}
-use Rattle.spanning_pair.specs.Darts.InComponent.{itself, reversed}
+use Rattle.orbits.specs.Components.InComponent.{itself, reversed}
 use Rattle.spanning_pair.specs.Rotations.{place_of, dart_of, next_dart, node_row}
 use Rattle.spanning_pair.specs.Walks.{IsTreeWalk}
 use Rattle.spanning_pair.proofs.Components.{component_below}
-use Rattle.spanning_pair.proofs.Listing.{listed, from_listed, in_listed, listed_apart, same_length, pairs_and_listed, in_filter-number, from_filter-number, filter_apart, strictly_apart, from_numbers, in_numbers, numbers_apart, any_from, some_that}
+use Rattle.spanning_pair.proofs.Listing.{listed, from_listed, in_listed, listed_apart, pairs_and_listed, strictly_apart}
 use Rattle.spanning_pair.proofs.OtherDart.{half_cases}
 use Rattle.spanning_pair.proofs.RotationDarts.{own_rows, place_there, dart_there, one_dart, next_signed, node_there, numbered_system, same_origin, signed-reverse}
 use Rattle.spanning_pair.proofs.WalkPairs.{mate_of, pairing, steps_on, begins_pair, first_place, one_first, same_place}
@@ -34,11 +39,6 @@ use Rattle.spanning_pair.proofs.WalkPairs.{mate_of, pairing, steps_on, begins_pa
 pub positive : (d : ℤ) → (pos (edge_of d) ≡ d) ⊎ (pos (edge_of d) ≡ reverse d)
 positive (pos n) = inl refl
 positive (negsuc n) = inr refl
-
-has_at : (xs : List ℕ) (k : ℕ) → k < length xs → has xs (get_or xs k 0) ≡ true
-has_at [] k h = absurd (omega arith)
-has_at (x ∷ xs) zero h = or_left _ _ (eq-eqb x x refl)
-has_at (x ∷ xs) (suc k) h = or_right _ _ (has_at xs k (omega arith))
 
 module _ (r : RotationRows) (is : IsRotation r) (start : ℕ) (start_below : start < 2 * length r.edges)
     (dart : ℕ → ℕ) (tree first : ℕ → Bool) (a b : ℕ) (w : IsTreeWalk (next_dart r) (node_row r) start dart tree first a b)
@@ -91,7 +91,7 @@ module _ (r : RotationRows) (is : IsRotation r) (start : ℕ) (start_below : sta
 
   edge_in : (d : ℕ) → InComponent (next_dart r) start d → has own_edges (edge_id d) ≡ true
   edge_in d c =
-      in_filter-number (λ e. has_edge ds (pos e)) m.edges.keys (edge_id d)
+      in_filter same_numbers (λ e. has_edge ds (pos e)) m.edges.keys (edge_id d)
       (elim (positive (signed_edge r.edges d)) [
         | inl e ↦ rw e (into d c)
         | inr e ↦ rw e (subst (λ z. has_edge ds z ≡ true) (signed-reverse r is d) (into (reverse_dart d) (reversed d c)))
@@ -100,7 +100,7 @@ module _ (r : RotationRows) (is : IsRotation r) (start : ℕ) (start_below : sta
 
   edge_from : (x : ℕ) → has own_edges x ≡ true → has new_edges x ≡ true
   edge_from x h =
-      let passed = from_filter-number (λ e. has_edge ds (pos e)) m.edges.keys x h in
+      let passed = from_filter same_numbers (λ e. has_edge ds (pos e)) m.edges.keys x h in
       let k = dart_there r is (pos x) (signed-has m (pos x) ∙ passed.1) in
       let c = from (dart_of r.edges (pos x)) k.0 (subst (λ z. has_edge ds z ≡ true) (sym k.1) passed.0) in
       let p = (w.members (dart_of r.edges (pos x))).0 c in
@@ -115,8 +115,8 @@ module _ (r : RotationRows) (is : IsRotation r) (start : ℕ) (start_below : sta
 
   edges_counted : length new_edges ≡ edge_count m ds
   edges_counted =
-      same_length new_edges own_edges edges_apart
-      (filter_apart (λ e. has_edge ds (pos e)) m.edges.keys (strictly_apart m.edges.keys (rising_strictly (map (λ e. e.id) r.edges) is.edges)))
+      same_length same_numbers new_edges own_edges edges_apart
+      (apart_kept same_numbers (λ e. has_edge ds (pos e)) m.edges.keys (strictly_apart m.edges.keys (rising_strictly (map (λ e. e.id) r.edges) is.edges)))
       (λ x h.
       let i = from_listed (λ i. first (a + i)) (λ i. edge_id (at i)) (b - a) x h in
       let l : i.0 < b - a = i.1 in
@@ -159,17 +159,17 @@ module _ (r : RotationRows) (is : IsRotation r) (start : ℕ) (start_below : sta
 
   node_in : (d : ℕ) → InComponent (next_dart r) start d → has own_nodes (node_of d) ≡ true
   node_in d c =
-      in_filter-number (λ n. list_any (has_edge ds) (leaving m n)) m.nodes.keys (node_of d)
-      (any_from (has_edge ds) (leaving m (node_of d)) (signed_edge r.edges d)
-      (in_filter (λ x. origin m x == node_of d) (signed_edges m) (signed_edge r.edges d) (eq-eqb (node_of d) (node_of d) refl) (signed_there (own_rows r) d (below d c)))
+      in_filter same_numbers (λ n. list_any (has_edge ds) (leaving m n)) m.nodes.keys (node_of d)
+      (any_from same_edges (has_edge ds) (leaving m (node_of d)) (signed_edge r.edges d)
+      (in_filter same_edges (λ x. origin m x == node_of d) (signed_edges m) (signed_edge r.edges d) (eq-eqb (node_of d) (node_of d) refl) (signed_there (own_rows r) d (below d c)))
       (into d c))
       (rising-has (map (λ n. n.id) r.nodes) (node_of d) ∙ node_there r is d (below d c))
 
   node_from : (x : ℕ) → has own_nodes x ≡ true → has (node_of start ∷ heads) x ≡ true
   node_from x h =
-      let passed = from_filter-number (λ n. list_any (has_edge ds) (leaving m n)) m.nodes.keys x h in
-      let d = some_that (has_edge ds) (leaving m x) passed.0 in
-      let leaves = from_filter (λ y. origin m y == x) (signed_edges m) d.0 d.1 in
+      let passed = from_filter same_numbers (λ n. list_any (has_edge ds) (leaving m n)) m.nodes.keys x h in
+      let d = some_that same_edges (has_edge ds) (leaving m x) passed.0 in
+      let leaves = from_filter same_edges (λ y. origin m y == x) (signed_edges m) d.0 d.1 in
       let k = dart_there r is d.0 leaves.1 in
       let c = from (dart_of r.edges d.0) k.0 (subst (λ z. has_edge ds z ≡ true) (sym k.1) d.2) in
       let its : node_of (dart_of r.edges d.0) ≡ x = ap (origin m) k.1 ∙ eqb-true (origin m d.0) x leaves.0 in
@@ -188,8 +188,8 @@ module _ (r : RotationRows) (is : IsRotation r) (start : ℕ) (start_below : sta
 
   nodes_counted : suc (length heads) ≡ node_count m ds
   nodes_counted =
-      same_length (node_of start ∷ heads) own_nodes heads_apart
-      (filter_apart (λ n. list_any (has_edge ds) (leaving m n)) m.nodes.keys (strictly_apart m.nodes.keys (rising_strictly (map (λ n. n.id) r.nodes) is.nodes)))
+      same_length same_numbers (node_of start ∷ heads) own_nodes heads_apart
+      (apart_kept same_numbers (λ n. list_any (has_edge ds) (leaving m n)) m.nodes.keys (strictly_apart m.nodes.keys (rising_strictly (map (λ n. n.id) r.nodes) is.nodes)))
       (λ x h. elim (cases_Bool (x == node_of start)) [
         | inl e ↦ subst (λ z. has own_nodes z ≡ true) (sym (eqb-true x (node_of start) e)) (node_in start itself)
         | inr e ↦
@@ -211,7 +211,7 @@ module _ (r : RotationRows) (is : IsRotation r) (start : ℕ) (start_below : sta
   step = after_mate (b - a) mate
 
   step_within : (i : ℕ) → i < b - a → step i < b - a
-  step_within i l = (after_permuted (b - a) mate (pairing (next_dart r) (node_row r) start dart tree first a b w)).in_range i l
+  step_within i l = (after_permuted (b - a) mate (pairing (next_dart r) (node_row r) start dart tree first a b w)).stays i l
 
   step_signed : (i : ℕ) → i < b - a → signed_edge r.edges (at (step i)) ≡ next m (signed_edge r.edges (at i))
   step_signed i l = ap (signed_edge r.edges) (steps_on (next_dart r) (node_row r) start dart tree first a b w i l) ∙ (next_signed r is (at i) (at_below i l)).1
@@ -220,34 +220,25 @@ module _ (r : RotationRows) (is : IsRotation r) (start : ℕ) (start_below : sta
   colour_kept i l =
       let d = signed_edge r.edges (at i) in
       let there = at_there i l in
-      let on = orbit_step (signed_edges m) (next m) (next_permutes (own_rows r) is.rotation) d d there (orbit_own (signed_edges m) (next m) d there) in
+      let on = orbit_step same_edges (signed_edges m) (next m) (next_permutes (own_rows r) is.rotation) d d there (orbit_own same_edges (signed_edges m) (next m) d there) in
       ap (λ x. dart_of r.edges (least x)) (step_signed i l) ∙ ap (dart_of r.edges) ((ring_named (own_rows r) is.rotation).same d (next m d) there on)
 
   -- from the place of a signed edge the steps lead to each of its ring
-  walked_to : (n : ℕ) (first z e : ℤ) → has_edge (until_return n (next m) first z) e ≡ true → (i : ℕ) → i < b - a → signed_edge r.edges (at i) ≡ z
-      → (j : ℕ) × (j < b - a) × Meet step i j × (signed_edge r.edges (at j) ≡ e)
-  unfolding until_return
-  walked_to zero first z e on i l same = absurd (both_ways _ refl on)
-  walked_to (suc n) first z e on i l same = elim (or_cases (same_edge e z) _ on) [
-    | inl here ↦ (i, l, (0, 0, refl), same ∙ sym (same_is e z here))
-    | inr more ↦ elim (cases_Bool (same_edge (next m z) first)) [
-      | inl back ↦ absurd (both_ways _ refl (rw back at more))
-      | inr further ↦
-          let t = walked_to n first (next m z) e (rw further at more) (step i) (step_within i l) (step_signed i l ∙ ap (next m) same) in
-          let meet = t.2 in
-          (t.0, t.1, (meet.0 + 1, meet.1, iterate-add step meet.0 1 i ∙ meet.2), t.3)
-    ]
-  ]
+  step_carried : Carries (λ i. i < b - a) (λ i. signed_edge r.edges (at i)) step (next m)
+  step_carried = record { stays = step_within; same = step_signed }
 
   on_ring : (i : ℕ) → i < b - a → (e : ℤ) → has_edge (ring m (signed_edge r.edges (at i))) e ≡ true → (j : ℕ) × (j < b - a) × Meet step i j × (signed_edge r.edges (at j) ≡ e)
-  on_ring i l e on = walked_to (length (signed_edges m)) (signed_edge r.edges (at i)) (signed_edge r.edges (at i)) e on i l refl
+  on_ring i l e on =
+      let k = (on_orbit same_edges (signed_edges m) (next m) (next_permutes (own_rows r) is.rotation) (signed_edge r.edges (at i)) e (at_there i l)).0 on in
+      let s = steps_carried (λ i. i < b - a) (λ i. signed_edge r.edges (at i)) step (next m) step_carried k.0 i l in
+      (stepped step k.0 i, s.0, (k.0, 0, refl), s.1 ∙ k.1)
 
   least_there : (i : ℕ) → i < b - a → (has_edge (rings m) (least (signed_edge r.edges (at i))) ≡ true) × (has_edge (ring m (signed_edge r.edges (at i))) (least (signed_edge r.edges (at i))) ≡ true)
   unfolding named
   least_there i l = name_there (signed_edges m) (ring m) (ring_parts (own_rows r) is.rotation) (signed_edge r.edges (at i)) (at_there i l)
 
   ring_signed : (d : ℤ) → has_edge (rings m) d ≡ true → (same_edge d (least d) ≡ true) × (has_edge (signed_edges m) d ≡ true)
-  ring_signed d h = from_filter (λ d. same_edge d (smallest d (ring m d))) (signed_edges m) d h
+  ring_signed d h = from_filter same_edges (λ d. same_edge d (smallest d (ring m d))) (signed_edges m) d h
 
   colour_apart : (i j : ℕ) → i < b - a → j < b - a → colour i ≡ colour j → Meet step i j
   colour_apart i j il jl e =
@@ -268,21 +259,21 @@ module _ (r : RotationRows) (is : IsRotation r) (start : ℕ) (start_below : sta
 
   ring_facts : (d : ℤ) → has_edge own_rings d ≡ true → (has_edge ds d ≡ true) × (d ≡ least d) × (has_edge (signed_edges m) d ≡ true)
   ring_facts d h =
-      let passed = from_filter (has_edge ds) (rings m) d h in
+      let passed = from_filter same_edges (has_edge ds) (rings m) d h in
       let its = ring_signed d passed.1 in
       (passed.0, same_is d (least d) its.0, its.1)
 
   rings_apart : is_distinct ring_colours ≡ true
   unfolding ring_colours
   rings_apart =
-      numbers_apart (dart_of r.edges) own_rings
-      (apart_kept (has_edge ds) (rings m) (apart_kept (λ d. same_edge d (smallest d (ring m d))) (signed_edges m) (signed_apart m is.rotation)))
+      names_distinct same_edges same_numbers (dart_of r.edges) own_rings
+      (apart_kept same_edges (has_edge ds) (rings m) (apart_kept same_edges (λ d. same_edge d (smallest d (ring m d))) (signed_edges m) (signed_apart m is.rotation)))
       (λ d e d_in e_in same. sym (dart_there r is d (ring_facts d d_in).2).1 ∙ ap (signed_edge r.edges) same ∙ (dart_there r is e (ring_facts e e_in).2).1)
 
   shown : (x : ℕ) → has ring_colours x ≡ true → (i : ℕ) × (i < b - a) × (colour i ≡ x)
   unfolding ring_colours
   shown x h =
-      let d = from_numbers (dart_of r.edges) own_rings x h in
+      let d = named_in same_edges same_numbers (dart_of r.edges) own_rings x h in
       let facts = ring_facts d.0 d.1 in
       let k = dart_there r is d.0 facts.2 in
       let c = from (dart_of r.edges d.0) k.0 (subst (λ z. has_edge ds z ≡ true) (sym k.1) facts.0) in
@@ -300,12 +291,12 @@ module _ (r : RotationRows) (is : IsRotation r) (start : ℕ) (start_below : sta
       let j = on_ring i l (least d) found.1 in
       let jl : j.0 < b - a = j.1 in
       let inside_it = subst (λ z. has_edge ds z ≡ true) j.3 (into (at j.0) (inside (a + j.0) (omega arith) (omega arith))) in
-      in_numbers (dart_of r.edges) own_rings (least d) (in_filter (has_edge ds) (rings m) (least d) inside_it found.0)
+      name_in same_edges same_numbers (dart_of r.edges) own_rings (least d) (in_filter same_edges (has_edge ds) (rings m) (least d) inside_it found.0)
 
   rings_counted : colours colour (b - a) ≡ ring_count m ds
   unfolding ring_colours
   rings_counted =
-      let few = values_few colour (b - a) ring_colours (λ k l. shown (get_or ring_colours k 0) (has_at ring_colours k l))
+      let few = values_few colour (b - a) ring_colours (λ k l. shown (get_or ring_colours k 0) (has_place ring_colours k l))
       (λ j k jk kl e. (let same : j ≡ k = one_place ring_colours rings_apart j k (omega arith) kl e in omega arith)) in
       let many = values_many colour (b - a) ring_colours (λ i l. (let p = place_there ring_colours (colour i) (colour_in i l) in (place_of ring_colours (colour i), p.0, p.1))) in
       let same = length-map own_rings (dart_of r.edges) in

@@ -3,7 +3,7 @@ use Rattle.std.proofs.Common.{◌≡◌, ◌≢◌, ℕ, ◌+◌, ◌-◌, ◌*�
 use Rattle.std.proofs.lemmas.Bool.{cases_eq, cases_Bool, false≢true}
 use Rattle.std.specs.Prelude.{not}
 use Rattle.spanning_pair.specs.Darts.{reverse_dart, turn, IsDartSystem, InComponent}
-use Rattle.spanning_pair.specs.Darts.InComponent.{reversed, turned_on}
+use Rattle.orbits.specs.Components.InComponent.{reversed, turned_on}
 use Rattle.spanning_pair.specs.Walks.{after}
 use Rattle.spanning_pair.proofs.OtherDart.{reverse_reverse, reverse_below, reverse_other, reverse_half, half_cases}
 use Rattle.spanning_pair.proofs.ByRule.{Follows, node_of_turn}

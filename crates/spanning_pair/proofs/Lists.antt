@@ -5,7 +5,7 @@ use Rattle.std.proofs.lemmas.Bool.{cases_eq}
 use Rattle.std.proofs.Math.ListN.{set, length-set}
 use Rattle.std.specs.Prelude.{not}
 use Rattle.spanning_pair.specs.Darts.{reverse_dart}
-use Rattle.spanning_pair.specs.Darts.InComponent.{itself}
+use Rattle.orbits.specs.Components.InComponent.{itself}
 use Rattle.spanning_pair.specs.Walks.{after}
 use Rattle.spanning_pair.specs.Tours.{number_at, flag_at, IsNumberedSystem, AreClean, AreMarked, IsWalkAppended}
 use Rattle.spanning_pair.proofs.OtherDart.{reverse_below}

@@ -6,7 +6,7 @@ use Rattle.std.proofs.lemmas.Bool.{and_parts, cases_eq, both_ways}
 use Rattle.plane_model.specs.PlaneMap.{next}
 use Rattle.rotation_check.specs.Darts.{RotationRows, IsRotation, map_of_rotation, signed_edge}
 use Rattle.spanning_pair.specs.Darts.{reverse_dart, InComponent}
-use Rattle.spanning_pair.specs.Darts.InComponent.{itself, reversed, turned_on}
+use Rattle.orbits.specs.Components.InComponent.{itself, reversed, turned_on}
 use Rattle.spanning_pair.specs.Rotations.{next_dart, AreComponentStarts}
 use Rattle.spanning_pair.specs.Tours.{flag_at}
 use Rattle.spanning_pair.proofs.ComponentDarts.{to_component}

@@ -3,7 +3,7 @@ use Rattle.std.proofs.Common.{◌≡◌, ◌≢◌, ℕ, zero, suc, ◌+◌, ◌
 use Rattle.std.proofs.lemmas.List.{get_or_append_left, get_or_push}
 use Rattle.std.proofs.lemmas.Bool.{cases_eq, cases_lt, cases_order, false≢true}
 use Rattle.spanning_pair.specs.Darts.{reverse_dart, IsDartSystem}
-use Rattle.spanning_pair.specs.Darts.InComponent.{reversed}
+use Rattle.orbits.specs.Components.InComponent.{reversed}
 use Rattle.spanning_pair.specs.Tours.{number_at, flag_at, AreStarts, IsTour}
 use Rattle.spanning_pair.specs.Crossings.{ClosesOver, IsFirstCrossing, OthersNest, ArePairs}
 use Rattle.spanning_pair.proofs.Components.{component_below}

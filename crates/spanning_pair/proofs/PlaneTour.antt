@@ -3,26 +3,25 @@ use Rattle.std.proofs.Common.{◌≡◌, ℕ, ◌+◌, ◌-◌, ◌*◌, ◌<◌
 use Rattle.std.specs.Prelude.{IsTrue}
 use Rattle.std.proofs.lemmas.Bool.{cases_Bool, eqb-true, false_from_ne_true}
 use Rattle.topo_base.specs.SignedEdge.{edge_of, same_edge}
+use Rattle.orbits.proofs.Lists.{from_filter, among, all_from}
+use Rattle.plane_model.proofs.SetLaws.{same_edges}
 use Rattle.plane_model.specs.Sets.{has_edge}
 use Rattle.plane_model.specs.PlaneMap.{signed_edges, smallest}
 use Rattle.plane_model.specs.Component.{component, components, node_count, edge_count, ring_count, is_plane_component, is_plane}
 use Rattle.plane_model.proofs.ComponentParts.{component_parts, component_own, component_back, component-reverse, its_component}
-use Rattle.plane_model.proofs.Closed.{from_filter}
-use Rattle.plane_model.proofs.SetLaws.{among}
 use Rattle.plane_model.proofs.SortedEdges.{signed-has}
 use Rattle.rotation_check.specs.Darts.{RotationRows, IsRotation, map_of_rotation, signed_edge}
 use Rattle.rotation_check.proofs.DartLists.{signed_there}
 use Rattle.cycle_pairs.specs.Pairs.{Nests}
 use Rattle.spanning_pair.specs.Crossings.{OthersNest, IsFirstCrossing}
 use Rattle.spanning_pair.specs.Darts.{reverse_dart}
-use Rattle.spanning_pair.specs.Darts.InComponent.{reversed}
+use Rattle.orbits.specs.Components.InComponent.{reversed}
 use Rattle.spanning_pair.specs.Rotations.{dart_of, next_dart, node_row, AreComponentStarts}
 use Rattle.spanning_pair.specs.Tours.{number_at, flag_at, IsTour}
 use Rattle.spanning_pair.specs.Walks.{IsTreeWalk}
 use Rattle.spanning_pair.proofs.ComponentDarts.{to_component, from_component}
 use Rattle.spanning_pair.proofs.Components.{component_below}
 use Rattle.spanning_pair.proofs.EulerCount.{nests_where_plane, positive}
-use Rattle.spanning_pair.proofs.Listing.{all_from}
 use Rattle.spanning_pair.proofs.Open.{place_in, places_up}
 use Rattle.spanning_pair.proofs.RotationDarts.{own_rows, dart_there, numbered_system}
 use Rattle.spanning_pair.proofs.WalkPairs.{mate_of, pairing, mate_other, is_mate, alone}
@@ -145,8 +144,8 @@ module _ (r : RotationRows) (is : IsRotation r) where
     unfolding Walk_nests
     nests_exactly_where_plane =
         let m = map_of_rotation r in (
-          λ nested. all_from (is_plane_component m) (components m) (λ c c_in.
-              let there = (from_filter (λ d. same_edge d (smallest d (component m d))) (signed_edges m) c c_in).1 in
+          λ nested. all_from same_edges (is_plane_component m) (components m) (λ c c_in.
+              let there = (from_filter same_edges (λ d. same_edge d (smallest d (component m d))) (signed_edges m) c c_in).1 in
               let k = dart_there r is c there in
               let i = are.each (dart_of r.edges c) k.0 in
               let h = are.below i.0 i.1 in
@@ -157,8 +156,8 @@ module _ (r : RotationRows) (is : IsRotation r) where
           λ plane. all_nest (λ i l.
               let h = are.below i l in
               let c = its_component (own_rows r) is.rotation (signed_edge r.edges (number_at starts i)) (signed_there (own_rows r) (number_at starts i) h) in
-              (part_nests c.0 (from_filter (λ d. same_edge d (smallest d (component m d))) (signed_edges m) c.0 c.1).1 (number_at starts i) (number_at darts) (flag_at tree) (flag_at first) (begin i) (begin (i + 1)) h c.2 (t.walks i l)).1
-              (among (is_plane_component m) (components m) c.0 plane c.1)),
+              (part_nests c.0 (from_filter same_edges (λ d. same_edge d (smallest d (component m d))) (signed_edges m) c.0 c.1).1 (number_at starts i) (number_at darts) (flag_at tree) (flag_at first) (begin i) (begin (i + 1)) h c.2 (t.walks i l)).1
+              (among same_edges (is_plane_component m) (components m) c.0 plane c.1)),
         )
 
     -- the component of an edge of a crossing is not plane

@@ -1,23 +1,25 @@
 -- The darts of a rotation are a numbered system, and what is read of one is its next and its node.
 use Rattle.std.proofs.Common.{◌≡◌, ℕ, zero, suc, ◌*◌, ◌/◌, ◌%◌, ◌<◌, inl, inr, ℤ, Bool, true, ◌==◌, List, [], ◌∷◌, map, length, get_or, refl, sym, ap, ◌∙◌, subst, arith, eq-eqb}
-use Rattle.std.specs.Prelude.{find, is_some, nat_lt, option_map}
+use Rattle.std.specs.Prelude.{find, IsTrue, is_some, nat_lt, option_map}
 use Rattle.std.specs.List.{list_all}
 use Rattle.std.proofs.lemmas.Bool.{and_parts, cases_Bool, cases_eq, eqb-true, ne_eqb, or_cases, or_left, or_right, both_ways}
 use Rattle.std.proofs.lemmas.List.{length-map}
 use Rattle.std.proofs.lemmas.Option.{slice_get-get_or}
 use Rattle.topo_base.specs.SignedEdge.{edge_of, is_forward, reverse, same_edge}
+use Rattle.orbits.specs.Renaming.{Renames, Carries}
+use Rattle.orbits.proofs.Carried.{meets_listed}
+use Rattle.orbits.proofs.Lists.{in_filter, from_filter, among}
+use Rattle.orbits.proofs.Orbits.{orbit_own, orbit_same}
 use Rattle.plane_model.specs.declared.rows.EdgeRow.{EdgeRow}
 use Rattle.plane_model.specs.declared.rows.NodeRow.{NodeRow}
 use Rattle.plane_model.specs.Rows.{Rows}
 use Rattle.plane_model.specs.Sets.{has, has_edge, is_distinct, is_distinct_edges}
-use Rattle.plane_model.specs.PlaneMap.{PlaneMap, map_of, no_edge, signed_edges, next, turn, origin, head, leaving, until_return, round}
+use Rattle.plane_model.specs.PlaneMap.{PlaneMap, map_of, no_edge, signed_edges, next, turn, origin, head, leaving, round}
 use Rattle.plane_model.specs.Rotation.{has_its_rows, is_one_orbit, is_whole_node, is_rotation}
 use Rattle.plane_model.specs.Orders.{Permutes}
-use Rattle.plane_model.proofs.Closed.{in_filter, from_filter}
 use Rattle.plane_model.proofs.Lookups.{is_backward, positive_id}
-use Rattle.plane_model.proofs.Orbits.{orbit_own, orbit_same}
 use Rattle.plane_model.proofs.RotationOrbits.{next_permutes, turn_permutes}
-use Rattle.plane_model.proofs.SetLaws.{same_is, same_self, among}
+use Rattle.plane_model.proofs.SetLaws.{same_is, same_self, same_edges}
 use Rattle.plane_model.proofs.Sorting as sorting
 use Rattle.rotation_check.specs.Darts.{RotationRows, IsRotation, map_of_rotation, node_id, signed_edge}
 use Rattle.rotation_check.proofs.DartLists.{dart_place, signed_there}
@@ -82,10 +84,10 @@ on_round m permutes [] one inside a b h k = absurd (both_ways _ refl h)
 on_round m permutes (d ∷ ds) one inside a b h k =
     let there = inside d (or_left _ _ (same_self d)) in
     let on : (x : ℤ) → has_edge (d ∷ ds) x ≡ true → has_edge (round m d) x ≡ true = λ x q. elim (or_cases (same_edge x d) (has_edge ds x) q) [
-      | inl is ↦ subst (λ y. has_edge (round m d) y ≡ true) (sym (same_is x d is)) (orbit_own (signed_edges m) (turn m) d there)
-      | inr more ↦ among (has_edge (round m d)) ds x one more
+      | inl is ↦ subst (λ y. has_edge (round m d) y ≡ true) (sym (same_is x d is)) (orbit_own same_edges (signed_edges m) (turn m) d there)
+      | inr more ↦ among same_edges (has_edge (round m d)) ds x one more
     ] in
-    orbit_same (signed_edges m) (turn m) permutes d a there (on a h) b ∙ on b k
+    orbit_same same_edges (signed_edges m) (turn m) permutes d a there (on a h) b ∙ on b k
 
 abbrev pub own_rows : RotationRows → Rows
 own_rows r = record { nodes = r.nodes; edges = r.edges; faces = []; regions = []; members = [] }
@@ -151,7 +153,7 @@ module _ (r : RotationRows) (is : IsRotation r) where
   -- the node of a dart is there
   pub node_there : (k : ℕ) → k < 2 * length r.edges → has (map (λ n. n.id) r.nodes) (origin (map_of_rotation r) (signed_edge r.edges k)) ≡ true
   node_there k h =
-      let rows = among (has_its_rows (map_of_rotation r)) (signed_edges (map_of_rotation r)) (signed_edge r.edges k) (tests (map_of_rotation r) is.rotation).rows (signed_there (own_rows r) k h) in
+      let rows = among same_edges (has_its_rows (map_of_rotation r)) (signed_edges (map_of_rotation r)) (signed_edge r.edges k) (tests (map_of_rotation r) is.rotation).rows (signed_there (own_rows r) k h) in
       found_has r.nodes (origin (map_of_rotation r) (signed_edge r.edges k)) (and_parts _ _ rows).0
 
   pub row_there : (k : ℕ) → k < 2 * length r.edges → node_row r k < length r.nodes
@@ -177,34 +179,22 @@ module _ (r : RotationRows) (is : IsRotation r) where
   follows_on : (k : ℕ) → k < 2 * length r.edges → node_row r (next_dart r k) ≡ node_row r (reverse_dart k)
   unfolding node_row
   follows_on k h =
-      let meet = eqb-true _ _ (among (λ d. origin (map_of_rotation r) (next (map_of_rotation r) d) == head (map_of_rotation r) d) (signed_edges (map_of_rotation r)) (signed_edge r.edges k) (tests (map_of_rotation r) is.rotation).ends (signed_there (own_rows r) k h)) in
+      let meet = eqb-true _ _ (among same_edges (λ d. origin (map_of_rotation r) (next (map_of_rotation r) d) == head (map_of_rotation r) d) (signed_edges (map_of_rotation r)) (signed_edge r.edges k) (tests (map_of_rotation r) is.rotation).ends (signed_there (own_rows r) k h)) in
       ap (place_of (map (λ n. n.id) r.nodes)) (ap (origin (map_of_rotation r)) (next_signed k h).1 ∙ meet ∙ ap (origin (map_of_rotation r)) (sym (signed-reverse k)))
 
-  -- turns of a dart are steps of its signed edge
-  turned_on : (k d : ℕ) → turned (next_dart r) (suc k) d ≡ turned (next_dart r) k (darts.turn (next_dart r) d)
-  unfolding turned
-  turned_on zero d = refl
-  turned_on (suc k) d = ap (darts.turn (next_dart r)) (turned_on k d)
+  -- signed edges are names of darts, which carry reverses, turns and nexts
+  pub signed_names : Renames (λ k. k < 2 * length r.edges) (λ d. IsTrue (has_edge (signed_edges (map_of_rotation r)) d)) (signed_edge r.edges)
+  signed_names = record {
+    into = λ k h. signed_there (own_rows r) k h;
+    one = one_dart;
+    onto = λ d h. (let k = dart_there d h in (dart_of r.edges d, k.0, k.1));
+  }
 
-  turned_below : (k d : ℕ) → d < 2 * length r.edges → turned (next_dart r) k d < 2 * length r.edges
-  unfolding turned
-  turned_below zero d h = h
-  turned_below (suc k) d h = (turn_signed (turned (next_dart r) k d) (turned_below k d h)).0
+  pub turn_carried : Carries (λ k. k < 2 * length r.edges) (signed_edge r.edges) (darts.turn (next_dart r)) (turn (map_of_rotation r))
+  turn_carried = record { stays = λ k h. (turn_signed k h).0; same = λ k h. (turn_signed k h).1 }
 
-  steps_to : (n : ℕ) (first z e : ℤ) → has_edge (until_return n (turn (map_of_rotation r)) first z) e ≡ true → (d : ℕ) → d < 2 * length r.edges → signed_edge r.edges d ≡ z
-      → (k : ℕ) × (signed_edge r.edges (turned (next_dart r) k d) ≡ e)
-  unfolding until_return turned
-  steps_to zero first z e on d h same = absurd (both_ways _ refl on)
-  steps_to (suc n) first z e on d h same = elim (or_cases (same_edge e z) _ on) [
-    | inl here ↦ (0, same ∙ sym (same_is e z here))
-    | inr more ↦ elim (cases_Bool (same_edge (turn (map_of_rotation r) z) first)) [
-      | inl back ↦ absurd (both_ways _ refl (rw back at more))
-      | inr further ↦
-          let t = turn_signed d h in
-          let k = steps_to n first (turn (map_of_rotation r) z) e (rw further at more) (darts.turn (next_dart r) d) t.0 (t.1 ∙ ap (turn (map_of_rotation r)) same) in
-          (suc k.0, ap (signed_edge r.edges) (turned_on k.0 d) ∙ k.1)
-    ]
-  ]
+  pub reverse_carried : Carries (λ k. k < 2 * length r.edges) (signed_edge r.edges) reverse_dart reverse
+  reverse_carried = record { stays = λ k h. reverse_below k (length r.edges) h; same = λ k h. signed-reverse k }
 
   -- the darts of a node are one orbit
   one_round : (d e : ℕ) → d < 2 * length r.edges → e < 2 * length r.edges → node_row r d ≡ node_row r e → (k : ℕ) × (turned (next_dart r) k d ≡ e)
@@ -213,12 +203,12 @@ module _ (r : RotationRows) (is : IsRotation r) where
       let origins = same_origin d e h q same in
       let whole = sorting.among (is_whole_node (map_of_rotation r)) (map_of_rotation r).nodes.keys n (tests (map_of_rotation r) is.rotation).nodes (sorting.rising-has (map (λ n. n.id) r.nodes) n ∙ node_there d h) in
       let p : ℤ → Bool = λ x. origin (map_of_rotation r) x == n in
-      let a = in_filter p (signed_edges (map_of_rotation r)) (signed_edge r.edges d) (eq-eqb n n refl) (signed_there (own_rows r) d h) in
-      let b = in_filter p (signed_edges (map_of_rotation r)) (signed_edge r.edges e) (eq-eqb _ n (sym origins)) (signed_there (own_rows r) e q) in
+      let a = in_filter same_edges p (signed_edges (map_of_rotation r)) (signed_edge r.edges d) (eq-eqb n n refl) (signed_there (own_rows r) d h) in
+      let b = in_filter same_edges p (signed_edges (map_of_rotation r)) (signed_edge r.edges e) (eq-eqb _ n (sym origins)) (signed_there (own_rows r) e q) in
       let on = on_round (map_of_rotation r) (turn_permutes (own_rows r) is.rotation) (leaving (map_of_rotation r) n) (and_parts _ _ whole).0
-      (λ x there. (from_filter p (signed_edges (map_of_rotation r)) x there).1) (signed_edge r.edges d) (signed_edge r.edges e) a b in
-      let steps = steps_to (length (signed_edges (map_of_rotation r))) (signed_edge r.edges d) (signed_edge r.edges d) (signed_edge r.edges e) on d h refl in
-      (steps.0, one_dart (turned (next_dart r) steps.0 d) e (turned_below steps.0 d h) q steps.1)
+      (λ x there. (from_filter same_edges p (signed_edges (map_of_rotation r)) x there).1) (signed_edge r.edges d) (signed_edge r.edges e) a b in
+      (meets_listed same_edges (λ k. k < 2 * length r.edges) (signed_edges (map_of_rotation r)) (signed_edge r.edges) (darts.turn (next_dart r)) (turn (map_of_rotation r))
+      signed_names turn_carried (turn_permutes (own_rows r) is.rotation) d e h q).1 on
 
   pub numbered_system : IsNumberedSystem (length r.edges) (length r.nodes) (next_dart r) (node_row r)
   numbered_system = record {

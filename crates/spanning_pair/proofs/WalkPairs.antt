@@ -6,7 +6,7 @@ use Rattle.std.proofs.lemmas.Bool.{cases_eq, cases_Bool, cases_lt, both_ways, lt
 use Rattle.cycle_pairs.specs.Pairs.{IsPairing, after_mate}
 use Rattle.cycle_pairs.proofs.Orbits.{after_cases}
 use Rattle.spanning_pair.specs.Darts.{reverse_dart}
-use Rattle.spanning_pair.specs.Darts.InComponent.{reversed}
+use Rattle.orbits.specs.Components.InComponent.{reversed}
 use Rattle.spanning_pair.specs.Walks.{after, IsTreeWalk}
 use Rattle.spanning_pair.proofs.OtherDart.{reverse_reverse, reverse_other}
 

@@ -1,5 +1,7 @@
 -- Darts, rotation systems and components. Edge i has the darts 2 * i and 2 * i + 1.
-use Rattle.std.specs.Prelude.{◌≡◌, ℕ, ◌*◌, ◌<◌, zero, suc}
+use Rattle.std.specs.Prelude.{◌≡◌, ℕ, ◌*◌, ◌<◌}
+use Rattle.orbits.specs.Walks as walks
+use Rattle.orbits.specs.Components as sets
 use Rattle.rotation_check.specs.Darts as rotation
 
 -- the other dart of the edge
@@ -11,9 +13,8 @@ abbrev pub turn : (ℕ → ℕ) → ℕ → ℕ
 turn next d = next (reverse_dart d)
 
 -- the dart that comes after k turns
-unfoldable pub turned : (ℕ → ℕ) → ℕ → ℕ → ℕ
-turned next zero d = d
-turned next (suc k) d = turn next (turned next k d)
+abbrev pub turned : (ℕ → ℕ) → ℕ → ℕ → ℕ
+turned next k d = walks.stepped (turn next) k d
 
 -- `next` permutes the darts, and the darts that leave a node are one orbit of `turn`
 pub record IsDartSystem (edges : ℕ) (next node : ℕ → ℕ) : Type 0 where
@@ -23,7 +24,5 @@ pub record IsDartSystem (edges : ℕ) (next node : ℕ → ℕ) : Type 0 where
   pub round : (d e : ℕ) → d < 2 * edges → e < 2 * edges → node d ≡ node e → (k : ℕ) × (turned next k d ≡ e)
 
 -- the component of a dart: the least set that holds it and is closed under `reverse_dart` and `turn`
-pub data InComponent (next : ℕ → ℕ) (start : ℕ) : ℕ → Type 0 where
-  itself : InComponent next start start
-  reversed : (d : ℕ) → InComponent next start d → InComponent next start (reverse_dart d)
-  turned_on : (d : ℕ) → InComponent next start d → InComponent next start (turn next d)
+abbrev pub InComponent : (ℕ → ℕ) → ℕ → ℕ → Type 0
+InComponent next start d = sets.InComponent reverse_dart (turn next) start d
