@@ -1,0 +1,12 @@
+use Rattle.std.proofs.Common.{◌≤◌, ◌+◌, ◌*◌}
+use Rattle.pemb_file.specs.Faults.{is_isolated}
+use Rattle.pemb_file.specs.PlacedView.{contents_of_placed}
+use Rattle.pemb_file.proofs.Nots.{PassBelow}
+use Rattle.pemb_file.proofs.places.Placed.wrong_isolated.Given as goal
+
+abbrev pub invariant-loop-j : goal.invariant-loop-j
+invariant-loop-j g l = record {
+  pass : PassBelow (is_isolated (contents_of_placed l.self)) l.j;
+  grows : l.initial.steps ≤ l.steps;
+  cost : l.steps ≤ l.initial.steps + l.j * (8);
+}

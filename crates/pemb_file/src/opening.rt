@@ -1,0 +1,144 @@
+//! A lawful file opened as views.
+
+ghost use Rattle.std.specs.Prelude.{◌≡◌, ◌≤◌, ◌+◌, ◌*◌, None, [], ◌∷◌, IfOk, IsTrue, IsSome};
+ghost use Rattle.bit_words.specs.Digits.{digits};
+ghost use Rattle.bit_words.specs.WordView.{words_of as view_words};
+ghost use Rattle.parens.specs.ParenView.{parens_of};
+ghost use Rattle.id_names.specs.NamesView.{ids_of};
+ghost use Rattle.turan_code.specs.TuranView.{code_of_view};
+ghost use Rattle.code_laws.specs.SeqFault.{is_sound, first_some};
+ghost use Rattle.pemb_file.specs.Layout.{counts_in, words_of, bits_at, fields_at};
+ghost use Rattle.pemb_file.specs.Contents.{contents_of};
+ghost use Rattle.pemb_file.specs.Kinds.{is_named};
+ghost use Rattle.pemb_file.specs.Parens.{HasParens};
+ghost use Rattle.pemb_file.specs.Faults.{front_fault, digest_fault, count_fault, directories_fault, names_fault, all_names_fault, places_fault, start_fault, regions_fault};
+ghost use Rattle.plane_model.specs.Sets.{or_else};
+ghost use Rattle.pemb_file.specs.Lawful.{first_fault, content_fault, is_whole, file_size};
+ghost use Rattle.pemb_file.specs.Served.{contents_of_view};
+ghost use Rattle.pemb_file.specs.Checked.{Finds};
+
+use crate::fault::FileFault;
+use crate::header::open_header;
+use crate::image::Image;
+use crate::places::Placed;
+use crate::served::Served;
+use bit_words::Steps;
+use id_names::NamesView;
+use min_max_tree::MinMaxView;
+use parens::ParenView;
+use rank_select::RankView;
+use std::sync::ledger::Ledger;
+use turan_code::{TuranParts, TuranView};
+
+/// Parentheses in a section, with their counts and their tree in the next two.
+fn paren_view<'a>(image: &Image<'a>, number: u64) -> ParenView<'a>
+    requires { HasParens (view_words image.now.words) number }
+    ensures { parens_of result ≡ bits_at (view_words image.now.words) number }
+{
+    let bits = image.bits(number);
+    ParenView::new(
+        RankView::new(bits, image.fields(number + 1)),
+        MinMaxView::new(bits, image.part(number + 2)),
+    )
+}
+
+/// The code.
+fn code_view<'a>(image: &Image<'a>) -> TuranView<'a>
+    requires sound { IsTrue (is_sound (contents_of (view_words image.now.words)).code) }
+    requires directories { directories_fault (view_words image.now.words) (contents_of (view_words image.now.words)).code ≡ None }
+    ensures { code_of_view result ≡ (contents_of (view_words image.now.words)).code }
+{
+    TuranView::new(TuranParts {
+        a: RankView::new(image.bits(1), image.fields(2)),
+        tree: paren_view(image, 3),
+        dual: paren_view(image, 6),
+        starts: image.fields(9),
+    })
+}
+
+/// Names in a section and the next.
+fn names_view<'a>(image: &Image<'a>, number: u64) -> NamesView<'a>
+    requires named { IsTrue (is_named number) }
+    requires right { names_fault (view_words image.now.words) number ≡ None }
+    ensures { ids_of result ≡ fields_at (view_words image.now.words) number }
+{
+    NamesView::new(image.fields(number), image.fields(number + 1))
+}
+
+/// Whether places and starts are right.
+fn check_placed<C: Ledger>(
+    image: &Image<'_>,
+    code: TuranView<'_>,
+    steps: &mut Steps<C>,
+) -> Result<(), FileFault>
+    requires code { code_of_view code ≡ (contents_of (view_words image.now.words)).code }
+    requires names { names_fault (view_words image.now.words) 13 ≡ None }
+    ensures fault { Finds (first_some (places_fault (contents_of (view_words image.now.words)) ∷ start_fault (contents_of (view_words image.now.words)) ∷ [])) result }
+    ensures grows { steps.old ≤ steps.new }
+    ensures cost { steps.new ≤ steps.old + 2 * (counts_in (view_words image.now.words)).edges * (10 * digits (2 * (counts_in (view_words image.now.words)).edges + 2) + 139) + (counts_in (view_words image.now.words)).components * (48 * digits (2 * (counts_in (view_words image.now.words)).edges + 2) + 379) + (counts_in (view_words image.now.words)).isolated * 8 }
+{
+    let placed = Placed {
+        code,
+        forward: image.bits(10),
+        nodes: image.fields(11),
+        edges: image.fields(13),
+        places: image.fields(17),
+        place_order: image.fields(18),
+        isolated: image.fields(19),
+        faces: image.fields(15),
+    };
+    placed.check_places(steps)?;
+    placed.check_starts(steps)
+}
+
+/// The views of an image without fault.
+fn served<'a>(image: &Image<'a>, code: TuranView<'a>) -> Served<'a>
+    requires code { code_of_view code ≡ (contents_of (view_words image.now.words)).code }
+    requires names { all_names_fault (view_words image.now.words) ≡ None }
+    requires regions { regions_fault (view_words image.now.words) (contents_of (view_words image.now.words)) ≡ None }
+    requires whole { IsTrue (is_whole (contents_of (view_words image.now.words))) }
+    ensures { contents_of_view result ≡ contents_of (view_words image.now.words) }
+{
+    Served::new(
+        code,
+        image.bits(10),
+        names_view(image, 11),
+        names_view(image, 13),
+        names_view(image, 15),
+        names_view(image, 23),
+        image.fields(17),
+        image.fields(18),
+        image.fields(19),
+        paren_view(image, 20),
+        image.fields(25),
+    )
+}
+
+/// The views of an image, or the first fault in what its sections hold.
+fn content<'a, C: Ledger>(image: &Image<'a>, steps: &mut Steps<C>) -> Result<Served<'a>, FileFault>
+    ensures fault { Finds (content_fault (view_words image.now.words)) result }
+    ensures contents { IfOk result (λ s. contents_of_view s ≡ contents_of (view_words image.now.words)) }
+    ensures grows { steps.old ≤ steps.new }
+    ensures cost { steps.new ≤ steps.old + 2 * (counts_in (view_words image.now.words)).edges * (10 * digits (2 * (counts_in (view_words image.now.words)).edges + 2) + 139) + (counts_in (view_words image.now.words)).components * (48 * digits (2 * (counts_in (view_words image.now.words)).edges + 2) + 379) + (counts_in (view_words image.now.words)).isolated * 8 + 50 * (counts_in (view_words image.now.words)).edges + 4 * (counts_in (view_words image.now.words)).isolated + 205 }
+{
+    image.check_code(steps)?;
+    image.check_directories(steps)?;
+    image.check_all_names(steps)?;
+    let code = code_view(image);
+    check_placed(image, code, steps)?;
+    image.check_regions(steps)?;
+    image.check_padding(steps)?;
+    Ok(served(image, code))
+}
+
+/// The views of a lawful file, or the first fault of one that is not.
+pub fn open<'a, C: Ledger>(bytes: &'a [u8], steps: &mut Steps<C>) -> Result<Served<'a>, FileFault>
+    ensures fault { Finds (first_fault bytes.now) result }
+    ensures contents { IfOk result (λ s. contents_of_view s ≡ contents_of (words_of bytes.now)) }
+    ensures cost { steps.new ≤ steps.old + 1024 * digits (file_size (counts_in (words_of bytes.now))) * ((file_size (counts_in (words_of bytes.now))) + 2) }
+    ensures few_words { IsSome (or_else (front_fault bytes.now) (or_else (digest_fault bytes.now) (count_fault (counts_in (words_of bytes.now))))) → steps.new ≤ steps.old + 16 }
+    ensures grows { steps.old ≤ steps.new }
+{
+    let image = open_header(bytes, steps)?;
+    content(&image, steps)
+}
