@@ -1,0 +1,31 @@
+use Rattle.std.proofs.Common.{subst, sym, ap, ◌∙◌}
+use Rattle.id_names.specs.Names.{AreDistinctIds}
+use Rattle.std.specs.Prelude.{map}
+use Rattle.plane_model.specs.Rows.{rows_of}
+use Rattle.map_build.specs.Made.{place_of}
+use Rattle.map_build.proofs.Placing as placing
+use Rattle.map_build.proofs.building.place.Goals as goal
+
+pub new-requires-clause-names : goal.new-requires-clause-names
+new-requires-clause-names c = subst AreDistinctIds (sym (c.requires.faces ∙ placing.faces_are (rows_of c.args.tables.now) c.requires.in_range c.requires.consistent c.args.walked.now c.requires.walk)) (placing.face_names (rows_of c.args.tables.now) c.requires.in_range c.requires.consistent c.args.walked.now c.requires.walk)
+
+pub new-requires-clause-few : goal.new-requires-clause-few
+new-requires-clause-few c = placing.few_given (rows_of c.args.tables.now) c.requires.in_range c.requires.consistent c.args.walked.now c.requires.walk c.args.faces.now c.requires.faces
+
+pub of_components-requires : goal.of_components-requires
+of_components-requires c = placing.sides_known (rows_of c.args.tables.now) c.requires.in_range c.requires.consistent c.args.walked.now c.requires.walk c.in_ok-face_places.face_places.faces.now c.faces.result.now (c.in_ok-face_places.ensures.faces ∙ c.requires.faces) c.faces.ensures
+
+pub component_order-requires-clause-starts : goal.component_order-requires-clause-starts
+component_order-requires-clause-starts c = placing.starts_within (rows_of c.args.tables.now) c.requires.in_range c.requires.consistent c.args.walked.now c.requires.walk c.deref.result.now c.starts.result.now c.deref.ensures.value c.starts.ensures
+
+pub component_order-requires-clause-ids : goal.component_order-requires-clause-ids
+component_order-requires-clause-ids c = placing.small_ids (rows_of c.args.tables.now) c.requires.in_range c.requires.consistent c.args.walked.now c.requires.walk c.deref.result.now c.deref.ensures.value
+
+pub component_order-requires-clause-few : goal.component_order-requires-clause-few
+component_order-requires-clause-few c = placing.few_places (rows_of c.args.tables.now) c.requires.in_range c.requires.consistent c.args.walked.now c.requires.walk c.in_ok-face_places.face_places.faces.now c.deref-2.result.now (c.deref-2.ensures.value ∙ c.in_ok-places.ensures ∙ ap (map (place_of c.in_ok-face_places.face_places.faces.now)) c.faces.ensures)
+
+pub component_order-requires-clause-apart : goal.component_order-requires-clause-apart
+component_order-requires-clause-apart c = placing.starts_apart (rows_of c.args.tables.now) c.requires.in_range c.requires.consistent c.args.walked.now c.requires.walk c.deref.result.now c.starts.result.now c.deref.ensures.value c.starts.ensures
+
+pub isolated_nodes-requires-clause-known : goal.isolated_nodes-requires-clause-known
+isolated_nodes-requires-clause-known c = placing.nodes_known (rows_of c.args.tables.now) c.requires.in_range c.requires.consistent c.args.walked.now c.requires.walk c.in_ok-face_places.face_places.faces.now c.deref-3.result.now (c.in_ok-face_places.ensures.faces ∙ c.requires.faces) c.deref-3.ensures.value

@@ -1,0 +1,8 @@
+use Rattle.std.proofs.Common.{ap}
+use Rattle.plane_model.specs.PlaneMap.{PlaneMap}
+use Rattle.pemb_file.specs.Image.{image_of}
+use Rattle.map_build.specs.Made.{contents_of_map}
+use Rattle.map_build.proofs.laws.one_image.Goals as goal
+
+pub returns : goal.returns
+returns c = λ t u same. ap (λ (m : PlaneMap). image_of (contents_of_map m)) same.2

@@ -1,0 +1,12 @@
+pub mod Walk
+pub mod Made
+pub mod Walked
+pub mod Starts
+pub mod Filled
+pub mod BuildFaults
+pub mod ByNumber
+pub mod DartRows
+pub mod Standing
+pub mod Placed
+pub mod Tours
+pub mod Named

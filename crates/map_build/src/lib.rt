@@ -1,0 +1,19 @@
+//! From consistent tables to the image of their map: what its file holds is made of the map alone, by the walk round a
+//! spanning tree of each component.
+#![tactic(auto)]
+
+mod building;
+mod by_number;
+mod checked;
+mod fault;
+pub mod laws;
+mod names;
+mod places;
+mod rows;
+mod standing;
+#[cfg(test)]
+mod tests;
+pub mod worked;
+
+pub use building::build;
+pub use fault::BuildFault;

@@ -1,0 +1,350 @@
+//! Images of small maps.
+
+ghost use Rattle.std.specs.Prelude.{◌≡◌, ◌<◌, ◌&&◌, IfOk, IsTrue, []};
+ghost use Rattle.std.specs.List.{list_all};
+ghost use Rattle.topo_base.specs.SignedEdge.{is_signed_edge};
+ghost use Rattle.plane_model.specs.InRange.{is_edge_in_range, is_face_id, is_id, is_in_range, is_none_or};
+ghost use Rattle.plane_model.specs.Rows.{rows_of};
+
+use crate::{BuildFault, build};
+use bit_words::Steps;
+use map_maker::grid;
+use pemb_file::{Counts, open};
+use plane_model::{EdgeRow, FaceRow, NodeRow, Tables};
+use std::alloc::{AllocError, Global};
+use std::marker::Brand;
+use std::process::Abort;
+use std::sync::ledger::{Blank, Ledger};
+use std::test::Fail;
+use topo_base::{IdNumber, LARGEST_ID, Refusal, SignedNumber};
+
+/// A node: its id and the face that contains it.
+type Node = (IdNumber, Option<IdNumber>);
+
+/// An edge: its id, its start and end, its left and right next, and the faces on its left and right.
+type Edge = (
+    IdNumber,
+    (IdNumber, IdNumber),
+    (SignedNumber, SignedNumber),
+    (IdNumber, IdNumber),
+);
+
+/// The edges of a triangle whose inner face is 1.
+const TRIANGLE: [Edge; 3] = [
+    (1, (1, 2), (2, -3), (1, 0)),
+    (2, (2, 3), (3, -1), (1, 0)),
+    (3, (3, 1), (1, -2), (1, 0)),
+];
+
+/// The edges of six triangles side by side.
+const SIX_TRIANGLES: [Edge; 18] = [
+    (1, (1, 2), (2, -3), (1, 0)),
+    (2, (2, 3), (3, -1), (1, 0)),
+    (3, (3, 1), (1, -2), (1, 0)),
+    (4, (4, 5), (5, -6), (2, 0)),
+    (5, (5, 6), (6, -4), (2, 0)),
+    (6, (6, 4), (4, -5), (2, 0)),
+    (7, (7, 8), (8, -9), (3, 0)),
+    (8, (8, 9), (9, -7), (3, 0)),
+    (9, (9, 7), (7, -8), (3, 0)),
+    (10, (10, 11), (11, -12), (4, 0)),
+    (11, (11, 12), (12, -10), (4, 0)),
+    (12, (12, 10), (10, -11), (4, 0)),
+    (13, (13, 14), (14, -15), (5, 0)),
+    (14, (14, 15), (15, -13), (5, 0)),
+    (15, (15, 13), (13, -14), (5, 0)),
+    (16, (16, 17), (17, -18), (6, 0)),
+    (17, (17, 18), (18, -16), (6, 0)),
+    (18, (18, 16), (16, -17), (6, 0)),
+];
+
+/// The words of a triangle's file.
+const WORDS: [u64; 35] = [
+    0x4f504f54424d4550,
+    0,
+    0x98123f2d89e12b54,
+    0x24707ab9fff0f346,
+    0xa1690037f568805d,
+    0xbcaa430544eb8301,
+    3,
+    2,
+    1,
+    0,
+    0,
+    27,
+    4 << 32,
+    3,
+    2 << 32,
+    0,
+    1,
+    1 << 32,
+    0,
+    6 << 32,
+    0,
+    2 + (1 << 32),
+    3,
+    1,
+    2,
+    1 + (3 << 32),
+    2,
+    2 << 32,
+    1,
+    1,
+    0,
+    0,
+    0,
+    0,
+    0,
+];
+
+fn is_id(id: IdNumber) -> bool
+    ensures { result ≡ is_id id }
+{
+    id >= 1 && id <= LARGEST_ID
+}
+
+fn is_face_id(id: IdNumber) -> bool
+    ensures { result ≡ is_face_id id }
+{
+    id <= LARGEST_ID
+}
+
+fn is_signed_edge(number: SignedNumber) -> bool
+    ensures { result ≡ is_signed_edge number }
+{
+    number != 0 && number.unsigned_abs() <= LARGEST_ID
+}
+
+fn are_nodes_in_range(nodes: &[NodeRow]) -> bool
+    ensures { result ≡ list_all (λ r. is_id r.id && is_none_or is_face_id r.face) nodes.now }
+{
+    nodes
+        .iter()
+        .all(|node| is_id(node.id) && node.face.is_none_or(is_face_id))
+}
+
+fn is_edge_in_range(edge: &EdgeRow) -> bool
+    ensures { result ≡ is_edge_in_range edge.now }
+{
+    is_id(edge.id)
+        && is_id(edge.start)
+        && is_id(edge.end)
+        && is_signed_edge(edge.next_left)
+        && is_signed_edge(edge.next_right)
+        && is_face_id(edge.left_face)
+        && is_face_id(edge.right_face)
+}
+
+fn are_edges_in_range(edges: &[EdgeRow]) -> bool
+    ensures { result ≡ list_all is_edge_in_range edges.now }
+{
+    edges.iter().all(|edge| is_edge_in_range(edge))
+}
+
+fn are_faces_in_range(faces: &[FaceRow]) -> bool
+    ensures { result ≡ list_all (λ r. is_face_id r.id) faces.now }
+{
+    faces.iter().all(|face| is_face_id(face.id))
+}
+
+/// Whether tables without regions and members are in range.
+fn are_in_range(tables: &Tables) -> bool
+    ensures { IsTrue result → IsTrue (is_in_range (rows_of tables.now)) }
+{
+    if !are_nodes_in_range(&tables.nodes)
+        || !are_edges_in_range(&tables.edges)
+        || !are_faces_in_range(&tables.faces)
+    {
+        return false;
+    }
+    if !tables.regions.is_empty() || !tables.members.is_empty() {
+        return false;
+    }
+    tables.nodes.len() <= 16_777_216
+        && tables.edges.len() <= 16_777_216
+        && tables.faces.len() <= 16_777_216
+}
+
+fn tables(
+    alloc: Global,
+    nodes: &[Node],
+    edges: &[Edge],
+    faces: &[IdNumber],
+) -> Result<Tables, AllocError>
+    ensures regions { IfOk result (λ t. t.regions.items ≡ []) }
+    ensures members { IfOk result (λ t. t.members.items ≡ []) }
+{
+    Ok(Tables {
+        nodes: nodes
+            .iter()
+            .map(|&(id, face)| NodeRow { id, face })
+            .collect(alloc)?,
+        edges: edges
+            .iter()
+            .map(|&(id, (start, end), (next_left, next_right), (left_face, right_face))| EdgeRow {
+                id,
+                start,
+                end,
+                next_left,
+                next_right,
+                left_face,
+                right_face,
+            })
+            .collect(alloc)?,
+        faces: faces.iter().map(|&id| FaceRow { id }).collect(alloc)?,
+        regions: Vec::new(alloc),
+        members: Vec::new(alloc),
+    })
+}
+
+/// The bytes of these words, the lowest byte of each first.
+fn bytes_of(alloc: Global, words: &[u64]) -> Result<Vec<u8>, Fail> {
+    let mut bytes = Vec::new(alloc);
+    for word in words {
+        bytes.extend_from_slice(&word.to_le_bytes())?;
+    }
+    Ok(bytes)
+}
+
+/// The image of these tables.
+fn built(
+    alloc: Global,
+    nodes: &[Node],
+    edges: &[Edge],
+    faces: &[IdNumber],
+) -> Result<Result<Vec<u8>, BuildFault>, Fail> {
+    let tables = tables(alloc, nodes, edges, faces)?;
+    if !are_in_range(&tables) {
+        return Err(Fail::new("a number that is out of range"));
+    }
+    Ok(build(alloc, &tables))
+}
+
+/// The counts of a file, if it is lawful.
+fn counts_counted<C: Ledger>(alloc: Global, bytes: &[u8], blank: Blank) -> Option<Counts>
+    requires name { blank.name ≡ C.name }
+    requires parts { blank.parts ≡ C.parts }
+    requires some { 0 < blank.parts }
+{
+    let mut steps = Steps::<C>::new(alloc, blank);
+    Some(open(bytes, &mut steps).ok()?.counts())
+}
+
+/// The numbers of nodes, edges, faces without face 0, and components of the image of these tables.
+fn counts(
+    alloc: Global,
+    nodes: &[Node],
+    edges: &[Edge],
+    faces: &[IdNumber],
+) -> Result<Option<(u32, u32, u32, u32)>, Fail> {
+    let Ok(image) = built(alloc, nodes, edges, faces)? else {
+        return Ok(None);
+    };
+    Ok(counts_counted::<Brand>(alloc, &image, Blank::new(1)).map(|counts| (
+        counts.nodes,
+        counts.edges,
+        counts.faces,
+        counts.components,
+    )))
+}
+
+#[test]
+fn a_triangle_builds_its_words(rt: HostRuntime) -> Result<(), Fail> {
+    let alloc = rt.alloc();
+    let nodes = [(1, None), (2, None), (3, None)];
+    let want = bytes_of(alloc, &WORDS)?;
+    let Ok(image) = built(alloc, &nodes, &TRIANGLE, &[1])? else {
+        return Err(Fail::new("no image"));
+    };
+    assert!(rt; image.as_slice() == want.as_slice());
+    let [first, second, third] = TRIANGLE;
+    let nodes = [(3, None), (1, None), (2, None)];
+    let Ok(other) = built(alloc, &nodes, &[third, first, second], &[0, 1])? else {
+        return Err(Fail::new("no image"));
+    };
+    assert!(rt; other.as_slice() == want.as_slice());
+    Ok(())
+}
+
+#[test]
+fn consistent_maps_build_and_open(rt: HostRuntime) -> Result<(), Fail> {
+    let alloc = rt.alloc();
+    assert_eq!(rt; counts(alloc, &[], &[], &[])?, Some((0, 0, 0, 0)));
+    let nodes = [(1, None), (2, None), (3, None), (4, None), (5, Some(2))];
+    let [first, second, third] = TRIANGLE;
+    let edges = [first, second, third, (4, (4, 4), (4, -4), (2, 1))];
+    assert_eq!(rt; counts(alloc, &nodes, &edges, &[1, 2])?, Some((5, 4, 2, 2)));
+    Ok(())
+}
+
+#[test]
+fn maps_of_several_rings_build_and_open(rt: HostRuntime) -> Result<(), Fail> {
+    let alloc = rt.alloc();
+    let theta = [
+        (1, (1, 2), (-3, 2), (0, 1)),
+        (2, (1, 2), (-1, 3), (1, 2)),
+        (3, (1, 2), (-2, 1), (2, 0)),
+    ];
+    assert_eq!(rt;
+        counts(alloc, &[(1, None), (2, None)], &theta, &[1, 2])?,
+        Some((2, 3, 2, 1))
+    );
+    let nodes: Vec<Node> = (1..=18).map(|id| (id, None)).collect(alloc)?;
+    let faces: [IdNumber; 6] = [1, 2, 3, 4, 5, 6];
+    assert_eq!(rt;
+        counts(alloc, &nodes[..6], &SIX_TRIANGLES[..6], &[0, 1, 2])?,
+        Some((6, 6, 2, 2))
+    );
+    assert_eq!(rt;
+        counts(alloc, &nodes, &SIX_TRIANGLES, &faces)?,
+        Some((18, 18, 6, 6))
+    );
+    Ok(())
+}
+
+#[test]
+fn a_grid_of_a_hundred_thousand_edges_builds_and_opens(rt: HostRuntime) -> Result<(), Fail> {
+    let alloc = rt.alloc();
+    let Ok(tables) = grid(alloc, 223) else {
+        return Err(Fail::new("want of memory for the grid"));
+    };
+    let Ok(image) = build(alloc, &tables) else {
+        return Err(Fail::new("no image"));
+    };
+    let want = Counts {
+        nodes: 61_800,
+        edges: 107_008,
+        tree_edges: 50_175,
+        faces: 56_833,
+        components: 7_105,
+        isolated: 4_520,
+        regions: 0,
+    };
+    assert_eq!(rt;
+        counts_counted::<Brand>(alloc, &image, Blank::new(1)),
+        Some(want)
+    );
+    Ok(())
+}
+
+#[test]
+fn tables_that_are_not_consistent_are_refused(rt: HostRuntime) -> Result<(), Fail> {
+    let alloc = rt.alloc();
+    let crossed = [(1, (1, 1), (-2, 2), (0, 0)), (2, (1, 1), (1, -1), (0, 0))];
+    let want = Refusal::Euler {
+        edge: 1,
+        nodes: 1,
+        edges: 2,
+        rings: 1,
+    };
+    assert_eq!(rt;
+        built(alloc, &[(1, None)], &crossed, &[])?.err(),
+        Some(BuildFault::Refused(want))
+    );
+    let closed = [(1, (1, 1), (1, -1), (1, 0))];
+    assert_eq!(rt;
+        built(alloc, &[(1, None)], &closed, &[1, 5])?.err(),
+        Some(BuildFault::Refused(Refusal::BareFace { face: 5 }))
+    );
+    Ok(())
+}
