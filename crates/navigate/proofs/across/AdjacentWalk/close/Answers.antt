@@ -1,0 +1,57 @@
+use Rattle.std.proofs.Common.{rules, refl, arith, sym, ◌∙◌, ap, ◌≡◌, ◌*◌, ℕ, List, length}
+use Rattle.std.specs.Prelude.{map}
+use Rattle.scratch_region.specs.Marks.{is_marked}
+use Rattle.pemb_file.specs.Contents.{Contents}
+use Rattle.plane_model.specs.Sets.{has}
+use Rattle.navigate.specs.Bound.{line_digits}
+use Rattle.navigate.specs.Beside.{place_across}
+use Rattle.navigate.specs.FaceWalk as rings
+use Rattle.navigate.specs.FaceWalk.{face_positions}
+use Rattle.navigate.specs.AdjacentWalk.{contents_in, allowance}
+use Rattle.navigate.proofs.FaceLaws.{face_cleared_cost}
+use Rattle.navigate.proofs.Resting.{passed_shorter}
+use Rattle.navigate.proofs.StandingLaws.{given_across, ahead_next, ahead_end}
+use Rattle.navigate.proofs.across.AdjacentWalk.close.Goals as goal
+
+pub loop-p-init : goal.loop-p-init
+loop-p-init g c =
+    let v = c.args.self in
+    let m = contents_in v in
+    record {
+      same = v.same;
+      room = refl;
+      ahead = λ j h. given_across m v.place (face_positions v.whole) v.count j (sym (c.requires.marks j) ∙ h);
+      grows = omega arith;
+      paid = omega arith;
+    }
+
+pub clear-requires : goal.clear-requires
+clear-requires g c =
+    let i = c.loop-p.invariant in
+    let many = ap (λ (x : Contents). length x.faces) (c.in-Some.ensures.contents ∙ i.same) in
+    omega (arith, c.requires.room, i.room, many, c.place_across-place.ensures.within)
+
+pub loop-p-preserved : goal.loop-p-preserved
+loop-p-preserved g c =
+    let m = contents_in c.args.self in
+    let i = c.loop-p.invariant in
+    let old = face_positions c.loop-p.rings in
+    let new = face_positions c.pass.new.self in
+    let at : rings.contents_in c.pass.new.self ≡ m = c.in-Some.ensures.contents ∙ i.same in
+    let face = c.place_across-place.ensures.place ∙ ap (λ (x : Contents). place_across x c.in-Some.p) at in
+    let digits = ap line_digits i.same in
+    let digits_after = ap line_digits at in
+    record {
+      same = at;
+      room = c.clear.ensures.room ∙ i.room;
+      ahead = λ j h. ahead_next m old new c.in-Some.p c.place_across-place.result j (is_marked c.loop-p.marks j) (is_marked c.clear.new.self j) c.in-Some.ensures.next face (c.clear.ensures.marked j) (i.ahead j) h;
+      grows = omega (arith, i.grows, c.in-Some.ensures.cost.0, c.place_across-place.ensures.some_steps);
+      paid = face_cleared_cost m old new c.in-Some.p c.loop-p.steps c.pass.new.steps c.place_across-place.new.steps _ c.in-Some.ensures.next i.paid (omega (arith, digits, c.in-Some.ensures.cost.1)) (omega (arith, digits_after, c.place_across-place.ensures.cost));
+    }
+
+pub returns-clause-empty : goal.returns-clause-empty
+returns-clause-empty g c = λ j. ahead_end (contents_in c.args.self) (face_positions c.loop-p.rings) j (is_marked c.loop-p.marks j) c.in_default.ensures.next (c.loop-p.invariant.ahead j)
+
+pub returns-clause-paid : goal.returns-clause-paid
+unfolding allowance
+returns-clause-paid g c = omega (arith, c.loop-p.invariant.paid, c.in_default.ensures.cost)

@@ -1,0 +1,15 @@
+use Rattle.std.proofs.Common.{refl}
+use Rattle.navigate.specs.AdjacentWalk.{given, rest, allowance}
+use Rattle.navigate.proofs.across.AdjacentWalk.standing.Goals as goal
+
+pub returns-clause-given : goal.returns-clause-given
+unfolding given
+returns-clause-given c = refl
+
+pub returns-clause-rest : goal.returns-clause-rest
+unfolding rest
+returns-clause-rest c = refl
+
+pub returns-clause-paid : goal.returns-clause-paid
+unfolding allowance
+returns-clause-paid c = refl

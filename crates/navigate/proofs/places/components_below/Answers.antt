@@ -1,0 +1,75 @@
+use Rattle.std.proofs.Common.{arith, ◌+◌, ◌-◌, ◌/◌, ◌≡◌, ◌∙◌, ap}
+use Rattle.std.specs.Prelude.{slice_index}
+use Rattle.std.proofs.Common.{length}
+use Rattle.bit_words.specs.Digits.{digits}
+use Rattle.pemb_file.specs.Contents.{component_count}
+use Rattle.pemb_file.specs.Served.{contents_of_view}
+use Rattle.navigate.specs.Holes.{place_at}
+use Rattle.navigate.proofs.Facts.{digits_components}
+use Rattle.navigate.proofs.PlaceLaws.{many, component_at, places_rise, lower_half, upper_half}
+use Rattle.navigate.proofs.places.components_below.Goals as goal
+
+pub loop-low-init : goal.loop-low-init
+loop-low-init g c =
+    let n = c.counts-high.ensures.components in
+    let all = many (contents_of_view c.args.served) c.args.served.whole in
+    record {
+      order = omega arith;
+      within = omega (arith, n, all);
+      before = λ i l. absurd (omega (arith, l));
+      from = λ i l b. absurd (omega (arith, l, b, n, all));
+      grows = omega arith;
+      paid = (let same : c.counts-high.result.components - 0 ≡ component_count (contents_of_view c.args.served) = omega (arith, n) in let e = ap digits same in omega (arith, e));
+    }
+
+pub place-requires : goal.place-requires
+place-requires g c =
+    let m = contents_of_view c.args.served in
+    let low = c.loop-low.low in
+    let high = c.loop-low.high in
+    let l = component_at m c.args.served.whole (low + (high - low) / 2) (omega (arith, c.loop-low.invariant.within, c.loop-low-test.true)) in
+    omega (arith, l, c.place_order-component.ensures.component)
+
+pub loop-low-preserved-then-place : goal.loop-low-preserved-then-place
+loop-low-preserved-then-place g c =
+    let m = contents_of_view c.args.served in
+    let i = c.loop-low.invariant in
+    let low = c.loop-low.low in
+    let high = c.loop-low.high in
+    let half = upper_half low high c.loop-low-test.true in
+    let middle = low + (high - low) / 2 in
+    let at = c.place.ensures.place ∙ ap (slice_index m.places) c.place_order-component.ensures.component in
+    record {
+      order = omega (arith, c.loop-low-test.true);
+      within = i.within;
+      before = λ k l. let up = places_rise m c.args.served.whole k middle (omega (arith, l)) (omega (arith, i.within, c.loop-low-test.true)) in omega (arith, up, at, c.if-place.true);
+      from = i.from;
+      grows = omega (arith, i.grows, c.place_order-component.ensures.some_steps, c.place.ensures.some_steps);
+      paid = omega (arith, half, i.paid, c.place_order-component.ensures.few_steps, c.place.ensures.few_steps);
+    }
+
+pub loop-low-preserved : goal.loop-low-preserved
+loop-low-preserved g c =
+    let m = contents_of_view c.args.served in
+    let i = c.loop-low.invariant in
+    let low = c.loop-low.low in
+    let high = c.loop-low.high in
+    let half = lower_half low high c.loop-low-test.true in
+    let middle = low + (high - low) / 2 in
+    let at = c.place.ensures.place ∙ ap (slice_index m.places) c.place_order-component.ensures.component in
+    record {
+      order = omega (arith, c.loop-low-test.true);
+      within = omega (arith, i.within, c.loop-low-test.true);
+      before = i.before;
+      from = λ k l below. let up = places_rise m c.args.served.whole middle k l below in omega (arith, up, at, c.if-place.false);
+      grows = omega (arith, i.grows, c.place_order-component.ensures.some_steps, c.place.ensures.some_steps);
+      paid = omega (arith, half, i.paid, c.place_order-component.ensures.few_steps, c.place.ensures.few_steps);
+    }
+
+pub returns-clause-from : goal.returns-clause-from
+returns-clause-from g c = λ k l below. c.loop-low.invariant.from k (omega (arith, l, c.loop-low-test.false)) below
+
+pub returns-clause-cost : goal.returns-clause-cost
+returns-clause-cost g c =
+    let few = digits_components (contents_of_view c.args.served) c.args.served.whole in
+    omega (arith, few, c.loop-low.invariant.paid)

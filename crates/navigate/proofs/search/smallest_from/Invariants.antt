@@ -1,0 +1,23 @@
+use Rattle.std.proofs.Common.{◌≡◌, ◌<◌, ◌≤◌, ◌+◌, ◌*◌, length}
+use Rattle.code_laws.specs.Orbits.{orbit}
+use Rattle.pemb_file.specs.MapOfFile.{signed_at}
+use Rattle.navigate.specs.Bound.{line_digits}
+use Rattle.navigate.specs.Least.{least, smallest_of}
+use Rattle.pemb_file.specs.Served.{contents_of_view}
+use Rattle.navigate.specs.OrbitWalk.{contents_in, positions_left, price}
+use Rattle.navigate.proofs.search.smallest_from.Given as goal
+
+abbrev pub invariant-loop-q : goal.invariant-loop-q
+invariant-loop-q g l =
+    let m = contents_of_view l.served in
+    record {
+      map : contents_in l.walk ≡ m;
+      within : l.best < length m.code.a;
+      edge : l.best_edge ≡ signed_at m l.best;
+      least_left : least m l.best (positions_left l.walk) ≡ smallest_of m l.kind l.p;
+      grows : l.fn.steps + 1 ≤ l.steps;
+      paid : l.steps + price m * length (positions_left l.walk) ≤ l.fn.steps + price m * length (orbit m.code l.kind l.p);
+    }
+
+abbrev pub decreases-loop-q : goal.decreases-loop-q
+decreases-loop-q g l = length (positions_left l.walk)

@@ -1,0 +1,28 @@
+use Rattle.std.proofs.Common.{arith, sym, ◌∙◌, ap, ◌≡◌, ◌+◌, ◌*◌, [], ◌∷◌}
+use Rattle.std.specs.Prelude.{drop}
+use Rattle.pemb_file.specs.Contents.{Contents}
+use Rattle.navigate.specs.Bound.{line_digits}
+use Rattle.navigate.specs.Beside.{place_across, unseen}
+use Rattle.navigate.specs.FaceWalk.{contents_in, face_positions}
+use Rattle.navigate.proofs.Resting.{passed, passed_some, passed_shorter}
+use Rattle.navigate.proofs.FaceLaws.{face_passed_cost}
+use Rattle.navigate.proofs.FreshLaws.{unseen-own}
+use Rattle.navigate.proofs.unseen.to_other.Goals as goal
+
+pub loop-p-preserved : goal.loop-p-preserved
+loop-p-preserved g c =
+    let m = contents_in c.args.ring.now in
+    let i = c.loop-p.invariant in
+    let old = face_positions c.loop-p.ring in
+    let new = face_positions c.pass.new.self in
+    let next : old ≡ c.in-Some.p ∷ new = passed old new (drop 1 old) c.in-Some.p c.pass.result c.in-Some.ensures.next c.pass.ensures.next in
+    let cost = passed_some old new (drop 1 old) c.in-Some.p c.pass.result c.place_across-across.new.steps c.pass.new.steps (9 * line_digits (contents_in c.loop-p.ring) + 71) c.in-Some.ensures.next c.pass.ensures.next c.pass.ensures.cost in
+    let digits = ap line_digits i.map in
+    let face = c.place_across-across.ensures.place ∙ ap (λ (x : Contents). place_across x c.in-Some.p) i.map in
+    record {
+      map = c.pass.ensures.contents ∙ i.map;
+      unseen_left = sym (unseen-own m c.args.place [] c.in-Some.p c.place_across-across.result new face c.if-across-place.false) ∙ ap (unseen m c.args.place []) (sym next) ∙ i.unseen_left;
+      shorter = let e = passed_shorter old new c.in-Some.p next in omega (arith, e, i.shorter);
+      grows = omega (arith, i.grows, cost.0, c.place_across-across.ensures.some_steps);
+      paid = face_passed_cost m old new c.in-Some.p c.loop-p.steps c.place_across-across.new.steps c.pass.new.steps _ next i.paid (omega (arith, digits, c.place_across-across.ensures.cost)) (omega (arith, digits, cost.1));
+    }

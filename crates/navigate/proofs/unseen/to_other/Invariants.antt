@@ -1,0 +1,18 @@
+use Rattle.std.proofs.Common.{◌≡◌, ◌≤◌, ◌+◌, ◌*◌, [], length}
+use Rattle.navigate.specs.Beside.{unseen}
+use Rattle.navigate.specs.FaceWalk.{contents_in, face_positions, pass_price}
+use Rattle.navigate.proofs.unseen.to_other.Given as goal
+
+abbrev pub invariant-loop-p : goal.invariant-loop-p
+invariant-loop-p g l =
+    let m = contents_in l.fn.ring in
+    record {
+      map : contents_in l.ring ≡ m;
+      unseen_left : unseen m l.place [] (face_positions l.ring) ≡ unseen m l.place [] (face_positions l.fn.ring);
+      shorter : length (face_positions l.ring) ≤ length (face_positions l.fn.ring);
+      grows : l.fn.steps ≤ l.steps;
+      paid : l.steps + pass_price m * length (face_positions l.ring) ≤ l.fn.steps + pass_price m * length (face_positions l.fn.ring);
+    }
+
+abbrev pub decreases-loop-p : goal.decreases-loop-p
+decreases-loop-p g l = length (face_positions l.ring)

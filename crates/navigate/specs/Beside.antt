@@ -1,0 +1,23 @@
+-- The faces across the edges at positions, by their places: 0 for face 0, and else 1 + the number of the face.
+use Rattle.std.specs.Prelude.{ℕ, ◌==◌, not, List, map, filter}
+use Rattle.code_laws.specs.Code.{mate}
+use Rattle.code_laws.specs.Numbers.{ring_of}
+use Rattle.plane_model.specs.Sets.{first_occurrences, first_occurrences_but}
+use Rattle.pemb_file.specs.Contents.{Contents}
+use Rattle.pemb_file.specs.MapOfFile.{place_of_ring}
+
+-- the place of the face across the edge at a position
+unfoldable pub place_across : Contents → ℕ → ℕ
+place_across c p = place_of_ring c (ring_of c.code (mate c.code p))
+
+-- the places other than one
+abbrev pub others : ℕ → List ℕ → List ℕ
+others place xs = filter (λ g. not (g == place)) xs
+
+-- the places of the other faces across the edges at these positions, each where it comes first
+abbrev pub adjacent_places : Contents → ℕ → List ℕ → List ℕ
+adjacent_places c place ps = first_occurrences (others place (map (place_across c) ps))
+
+-- those of them that were not seen
+unfoldable pub unseen : Contents → ℕ → List ℕ → List ℕ → List ℕ
+unseen c place seen ps = first_occurrences_but seen (others place (map (place_across c) ps))

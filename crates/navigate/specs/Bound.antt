@@ -1,0 +1,29 @@
+-- The map that is served, and what bounds on words are measured by.
+use Rattle.std.specs.Prelude.{ℕ, ◌+◌, ◌*◌, List, length}
+use Rattle.bit_words.specs.Digits.{digits}
+use Rattle.plane_model.specs.PlaneMap.{PlaneMap, map_of}
+use Rattle.plane_model.specs.Consistent.{size}
+use Rattle.pemb_file.specs.Contents.{Contents}
+use Rattle.pemb_file.specs.MapOfFile.{rows_of_contents}
+use Rattle.pemb_file.specs.Served.{contents_of_view}
+use Rattle.pemb_file.specs.declared.served.Served.{Served}
+
+-- the map of some contents
+abbrev pub map_with : Contents → PlaneMap
+map_with c = map_of (rows_of_contents c)
+
+-- the map that a served file stands for
+abbrev pub served_map : Served → PlaneMap
+served_map s = map_with (contents_of_view s)
+
+-- how many words one line of a script may read, by what is gone round for it and what is listed
+abbrev pub most_words : PlaneMap → ℕ → ℕ → ℕ
+most_words m walked listed = 256 * digits (size m) * (walked + listed + 2)
+
+-- how many binary digits the size of the map has, by the lists of its contents
+abbrev pub line_digits : Contents → ℕ
+line_digits c = digits (2 * length c.edges + length c.isolated + 2 * length c.regions + 2)
+
+-- the same bound by the contents
+abbrev pub line_words : Contents → ℕ → ℕ → ℕ
+line_words c walked listed = 256 * line_digits c * (walked + listed + 2)

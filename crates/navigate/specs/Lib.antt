@@ -1,0 +1,10 @@
+pub mod Bound
+pub mod Least
+pub mod OrbitWalk
+pub mod Holes
+pub mod FaceWalk
+pub mod IslandWalk
+pub mod Beside
+pub mod RegionWalk
+pub mod AdjacentWalk
+pub mod Standing

@@ -1,0 +1,29 @@
+-- What a walk round a node or a ring still gives, and what it may still read.
+use Rattle.std.specs.Prelude.{ℕ, ◌+◌, ◌*◌, ℤ, List, map, length}
+use Rattle.code_laws.specs.Code.{step}
+use Rattle.code_laws.specs.Orbits.{walk}
+use Rattle.pemb_file.specs.Contents.{Contents}
+use Rattle.pemb_file.specs.MapOfFile.{signed_at}
+use Rattle.pemb_file.specs.Served.{contents_of_view}
+use Rattle.navigate.specs.Bound.{line_digits}
+use Rattle.navigate.specs.declared.orbit_walk.OrbitWalk.{OrbitWalk}
+
+-- the contents that it goes over
+abbrev pub contents_in : OrbitWalk → Contents
+contents_in w = contents_of_view w.served
+
+-- the positions that it still goes through
+unfoldable pub positions_left : OrbitWalk → List ℕ
+positions_left w = walk w.left (step (contents_in w).code w.kind) w.first w.at
+
+-- the signed edges that it still gives
+unfoldable pub rest : OrbitWalk → List ℤ
+rest w = map (signed_at (contents_in w)) (positions_left w)
+
+-- what reading a signed edge and going on cost at most
+abbrev pub price : Contents → ℕ
+price c = 16 * line_digits c + 158
+
+-- how many words it still reads at most
+unfoldable pub allowance : OrbitWalk → ℕ
+allowance w = price (contents_in w) * length (rest w)

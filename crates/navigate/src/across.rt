@@ -1,0 +1,109 @@
+//! The walk to the faces across the edges of a face, step by step.
+
+ghost use Rattle.std.specs.Prelude.{◌≡◌};
+ghost use Rattle.navigate.specs.FaceWalk as rings;
+ghost use Rattle.navigate.specs.Standing.{IsStanding};
+
+use crate::face_rings::FaceWalk;
+use crate::unseen::to_unseen;
+use bit_words::Steps;
+use scratch_region::Marks;
+use std::sync::ledger::Ledger;
+use topo_base::FaceId;
+
+/// A walk to the other faces across the edges of a face, each where it comes first.
+#[derive(Drop)]
+pub struct AdjacentWalk<'a> {
+    /// The place of the face that is gone round.
+    place: usize,
+    /// All its rings.
+    whole: FaceWalk<'a>,
+    /// Its rings from the position on across which the next face lies.
+    left: FaceWalk<'a>,
+    /// How many faces were given.
+    count: usize,
+    /// The place of the next face, unless the rings are at their end.
+    next: usize,
+    ghost same: { rings.contents_in whole ≡ rings.contents_in left },
+    ghost standing: { IsStanding (rings.contents_in left) place (rings.face_positions whole) (rings.face_positions left) count next },
+}
+
+impl<'a> AdjacentWalk<'a> {
+    ghost use Rattle.std.specs.Prelude.{◌≡◌, ◌<◌, ◌≤◌, ◌+◌, ◌*◌, ◌∷◌, ◌++◌, [], map, length, option_map, option_to_list, IsSome, IsNone, MatchOption};
+    ghost use Rattle.scratch_region.specs.Marks.{room_of, IsEmpty};
+    ghost use Rattle.pemb_file.specs.MapOfFile.{face_at_place};
+    ghost use Rattle.navigate.specs.Beside.{adjacent_places};
+    ghost use Rattle.navigate.specs.FaceWalk as rings;
+    ghost use Rattle.navigate.specs.FaceWalk.{pass_price};
+    ghost use Rattle.navigate.specs.Standing.{IsStanding};
+    ghost use Rattle.navigate.specs.AdjacentWalk.{contents_in, given, given_places, rest, allowance, step_price, HoldsGiven};
+
+    /// The walk that gives these faces from the first on, where `next` is across the first position that is left.
+    pub(crate) fn standing(
+        place: usize,
+        whole: FaceWalk<'a>,
+        left: FaceWalk<'a>,
+        next: usize,
+    ) -> AdjacentWalk<'a>
+        requires same { rings.contents_in whole ≡ rings.contents_in left }
+        requires standing { IsStanding (rings.contents_in left) place (rings.face_positions whole) (rings.face_positions left) 0 next }
+        ensures contents { contents_in result ≡ rings.contents_in left.entry }
+        ensures given { given result ≡ [] }
+        ensures rest { rest result ≡ map (face_at_place (rings.contents_in left.entry)) (adjacent_places (rings.contents_in left.entry) place (rings.face_positions whole.entry)) }
+        ensures places { given_places result ≡ [] }
+        ensures paid { allowance result ≡ step_price (rings.contents_in left.entry) * length (rings.face_positions left.entry) + pass_price (rings.contents_in left.entry) * length (rings.face_positions whole.entry) }
+    {
+        AdjacentWalk {
+            place,
+            whole,
+            left,
+            count: 0,
+            next,
+        }
+    }
+
+    /// The next face, or None at the end. The marks are the places of the faces given so far: 0 for face 0, and else 1 +
+    /// the number of the face.
+    pub fn step<C: Ledger>(&mut self, marks: &mut Marks<'_>, steps: &mut Steps<C>) -> Option<FaceId>
+        requires room { length (contents_in self.old).faces < room_of marks.old }
+        requires marks { HoldsGiven self.old marks.old }
+        ensures contents { contents_in self.new ≡ contents_in self.old }
+        ensures room { room_of marks.new ≡ room_of marks.old }
+        ensures next { MatchOption result (rest self.old ≡ []) (λ f. rest self.old ≡ f.0 ∷ rest self.new) }
+        ensures end { IsNone result → rest self.new ≡ [] }
+        ensures given { given self.new ≡ given self.old ++ option_to_list (option_map (λ f. f.0) result) }
+        ensures marks { HoldsGiven self.new marks.new }
+        ensures least { IsSome result → steps.old + 1 ≤ steps.new }
+        ensures free { IsNone result → steps.new ≡ steps.old }
+        ensures paid { steps.new + allowance self.new ≤ steps.old + allowance self.old }
+    {
+        let Some(_p) = self.left.peek() else {
+            return None;
+        };
+        let next = self.next;
+        marks.set(next);
+        let mut left = self.left;
+        let _ = left.pass(steps);
+        let face = left.face_in(next, steps);
+        self.next = to_unseen(&mut left, self.place, marks, steps);
+        self.left = left;
+        self.count += 1;
+        Some(face)
+    }
+
+    /// Takes the marks of the faces given so far away, by going once round the rings.
+    pub fn close<C: Ledger>(self, marks: &mut Marks<'_>, steps: &mut Steps<C>)
+        requires room { length (contents_in self).faces < room_of marks.old }
+        requires marks { HoldsGiven self marks.old }
+        ensures room { room_of marks.new ≡ room_of marks.old }
+        ensures empty { IsEmpty marks.new }
+        ensures grows { steps.old ≤ steps.new }
+        ensures paid { steps.new ≤ steps.old + allowance self.entry }
+    {
+        let mut rings = self.whole;
+        while let Some(p) = rings.pass(steps) {
+            let place = rings.place_across(p, steps);
+            marks.clear(place);
+        }
+    }
+}

@@ -1,0 +1,79 @@
+//! The walk along the rings of a face, from its beginning.
+
+ghost use Rattle.std.specs.Prelude.{◌≡◌, ◌<◌, ◌≤◌, ◌+◌, ◌*◌, ◌==◌, if◌then◌else◌, [], length, is_some, IfSome, MatchOption};
+ghost use Rattle.plane_model.specs.Rotation.{is_face};
+ghost use Rattle.plane_model.specs.Lists.{face_edges, shell, ring_if_some};
+ghost use Rattle.pemb_file.specs.Served.{contents_of_view};
+ghost use Rattle.pemb_file.specs.MapOfFile.{face_at_place};
+ghost use Rattle.navigate.specs.Bound.{served_map, most_words, line_digits};
+ghost use Rattle.navigate.specs.OrbitWalk as orbits;
+ghost use Rattle.navigate.specs.FaceWalk.{contents_in, rest, allowance};
+
+use crate::face_rings::FaceWalk;
+use crate::names;
+use crate::orbit_walk::OrbitWalk;
+use crate::places::components_below;
+use crate::search::smallest_from;
+use bit_words::Steps;
+use pemb_file::Served;
+use std::sync::ledger::Ledger;
+use topo_base::FaceId;
+
+/// The walk along the rings of the face at a place: its shell from the smallest signed edge on, which face 0 has not, and
+/// then the outer ring of each component in it.
+pub(crate) fn rings_at<'a, C: Ledger>(
+    served: Served<'a>,
+    place: usize,
+    steps: &mut Steps<C>,
+) -> FaceWalk<'a>
+    requires { place ≤ length (contents_of_view served).faces }
+    ensures contents { contents_in result ≡ contents_of_view served.entry }
+    ensures list { rest result ≡ face_edges (served_map served.entry) (face_at_place (contents_of_view served.entry) place) }
+    ensures grows { steps.old ≤ steps.new }
+    ensures cost { steps.new ≤ steps.old + (14 * line_digits (contents_of_view served.entry) + 30 + orbits.price (contents_of_view served.entry) * length (rest result)) }
+{
+    let hole = components_below(served, place, steps);
+    let end = components_below(served, place + 1, steps);
+    let ring = shell_walk(served, place, steps);
+    FaceWalk::settled(served, ring, hole, end, steps)
+}
+
+/// The walk round the shell of the face at a place, from its smallest signed edge on: none for face 0.
+fn shell_walk<'a, C: Ledger>(
+    served: Served<'a>,
+    place: usize,
+    steps: &mut Steps<C>,
+) -> OrbitWalk<'a>
+    requires { place ≤ length (contents_of_view served).faces }
+    ensures contents { orbits.contents_in result ≡ contents_of_view served.entry }
+    ensures list { orbits.rest result ≡ (if face_at_place (contents_of_view served.entry) place == 0 then [] else ring_if_some (served_map served.entry) (shell (served_map served.entry) (face_at_place (contents_of_view served.entry) place))) }
+    ensures grows { steps.old ≤ steps.new }
+    ensures cost { steps.new ≤ steps.old + (6 * line_digits (contents_of_view served.entry) + 24 + orbits.price (contents_of_view served.entry) * length (orbits.rest result)) }
+{
+    if place == 0 {
+        return OrbitWalk::over(served);
+    }
+    let Some(p) = served.code().first_of_shell((place - 1) as u32, steps) else {
+        unreachable!()
+    };
+    let start = smallest_from(served, false, p, steps);
+    OrbitWalk::from(served, false, start)
+}
+
+/// The walk along the rings of a face: its shell from the smallest signed edge on, which face 0 has not, and then each
+/// hole's ring, by the hole's smallest signed edge rising, each from that edge on. None where the map has no such face.
+pub fn face_walk<'a, C: Ledger>(
+    served: Served<'a>,
+    face: FaceId,
+    steps: &mut Steps<C>,
+) -> Option<FaceWalk<'a>>
+    ensures known { is_some result ≡ is_face (served_map served.entry) face.0 }
+    ensures list { IfSome result (λ w. rest w ≡ face_edges (served_map served.entry) face.0) }
+    ensures grows { steps.old ≤ steps.new }
+    ensures paid { MatchOption result (steps.new ≤ steps.old + most_words (served_map served.entry) 0 0) (λ w. steps.new + allowance w ≤ steps.old + most_words (served_map served.entry) (length (rest w)) (length (rest w))) }
+{
+    match names::place_of(served, face, steps) {
+        Some(place) => Some(rings_at(served, place, steps)),
+        None => None,
+    }
+}

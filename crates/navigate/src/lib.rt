@@ -1,0 +1,36 @@
+//! Walks and look-ups over one borrowed file. No call takes memory, and each reads at most as many words as its
+//! contract says. A walk is its own state alone, so that any number of them may stand over one file.
+#![tactic(auto)]
+
+mod across;
+mod common_region;
+mod directed;
+mod edges;
+mod face_rings;
+mod faces;
+mod inside;
+mod islands;
+mod look_ups;
+mod names;
+mod neighbours;
+mod orbit_walk;
+mod places;
+mod positions;
+mod rounds;
+mod search;
+mod unseen;
+
+pub use across::AdjacentWalk;
+pub use common_region::{RegionWalk, common, region_walk};
+pub use edges::{FaceEdges, NodeEdges, RingEdges, face_edges, node_edges, ring_edges};
+pub use face_rings::FaceWalk;
+pub use faces::face_walk;
+pub use inside::{Island, IslandWalk};
+pub use islands::island_walk;
+pub use look_ups::{containing, ends, next, sides};
+pub use neighbours::adjacent_walk;
+pub use orbit_walk::{NodeWalk, RingWalk};
+pub use rounds::{node_walk, ring_walk};
+
+#[cfg(test)]
+mod tests;

@@ -1,0 +1,112 @@
+//! Walks round an orbit of positions, by signed edges.
+
+ghost use Rattle.std.specs.Prelude.{◌<◌, length};
+ghost use Rattle.pemb_file.specs.Served.{contents_of_view};
+
+use crate::positions;
+use bit_words::Steps;
+use pemb_file::Served;
+use std::sync::ledger::Ledger;
+use topo_base::Signed;
+
+/// A walk round a node or a ring: what is left of it, from a position on until it comes back to the first.
+#[derive(Clone, Copy)]
+pub struct OrbitWalk<'a> {
+    served: Served<'a>,
+    /// Whether it goes round a node.
+    kind: bool,
+    /// The position at which it ends.
+    first: usize,
+    /// The next position.
+    at: usize,
+    /// How many positions may be left: none at the end.
+    left: usize,
+    ghost within: { 0 < left → at < length (contents_of_view served).code.a },
+}
+
+/// The signed edges that leave a node, clockwise.
+pub type NodeWalk<'a> = OrbitWalk<'a>;
+
+/// The signed edges of a ring.
+pub type RingWalk<'a> = OrbitWalk<'a>;
+
+impl<'a> OrbitWalk<'a> {
+    ghost use Rattle.std.specs.Prelude.{◌≡◌, ◌<◌, ◌≤◌, ◌+◌, ◌*◌, [], ◌∷◌, drop, length, IsSome, IsNone, MatchOption};
+    ghost use Rattle.std.specs.Iterator.{YieldsFirst};
+    ghost use Rattle.code_laws.specs.Orbits.{orbit};
+    ghost use Rattle.pemb_file.specs.Served.{contents_of_view};
+    ghost use Rattle.navigate.specs.Bound.{line_digits};
+    ghost use Rattle.navigate.specs.OrbitWalk.{contents_in, positions_left, rest, price, allowance};
+
+    /// The walk that begins at a position and ends before it.
+    pub(crate) fn from(served: Served<'a>, kind: bool, p: usize) -> OrbitWalk<'a>
+        requires { p < length (contents_of_view served).code.a }
+        ensures contents { contents_in result ≡ contents_of_view served.entry }
+        ensures positions { positions_left result ≡ orbit (contents_of_view served.entry).code kind p }
+    {
+        OrbitWalk {
+            served,
+            kind,
+            first: p,
+            at: p,
+            left: served.code().len(),
+        }
+    }
+
+    /// A walk at its end.
+    pub(crate) fn over(served: Served<'a>) -> OrbitWalk<'a>
+        ensures contents { contents_in result ≡ contents_of_view served.entry }
+        ensures positions { positions_left result ≡ [] }
+    {
+        OrbitWalk {
+            served,
+            kind: false,
+            first: 0,
+            at: 0,
+            left: 0,
+        }
+    }
+
+    /// The next position, which stays the next one, or None at the end.
+    pub(crate) fn peek(&self) -> Option<usize>
+        ensures within { MatchOption result (positions_left self.now ≡ []) (λ p. p < length (contents_in self.now).code.a) }
+        ensures next { MatchOption result (positions_left self.now ≡ []) (λ p. positions_left self.now ≡ p ∷ drop 1 (positions_left self.now)) }
+    {
+        if self.left == 0 { None } else { Some(self.at) }
+    }
+
+    /// The next position, or None at the end.
+    pub(crate) fn pass<C: Ledger>(&mut self, steps: &mut Steps<C>) -> Option<usize>
+        ensures contents { contents_in self.new ≡ contents_in self.old }
+        ensures next { MatchOption result (positions_left self.old ≡ []) (λ p. positions_left self.old ≡ p ∷ positions_left self.new) }
+        ensures within { MatchOption result (positions_left self.new ≡ []) (λ p. p < length (contents_in self.old).code.a) }
+        ensures cost { MatchOption result (steps.new ≡ steps.old) (λ _. (steps.old + 1 ≤ steps.new) × (steps.new ≤ steps.old + (9 * line_digits (contents_in self.old) + 65))) }
+    {
+        if self.left == 0 {
+            return None;
+        }
+        let p = self.at;
+        let next = positions::step_from(self.served, self.kind, p, steps);
+        if next == self.first {
+            self.left = 0;
+        } else {
+            self.at = next;
+            self.left -= 1;
+        }
+        Some(p)
+    }
+
+    /// The next signed edge, or None at the end.
+    pub fn step<C: Ledger>(&mut self, steps: &mut Steps<C>) -> Option<Signed>
+        ensures contents { contents_in self.new ≡ contents_in self.old }
+        ensures gives { YieldsFirst rest self.old result self.new }
+        ensures least { IsSome result → steps.old + 1 ≤ steps.new }
+        ensures free { IsNone result → steps.new ≡ steps.old }
+        ensures paid { steps.new + allowance self.new ≤ steps.old + allowance self.old }
+    {
+        match self.pass(steps) {
+            Some(p) => Some(positions::edge_at(self.served, p, steps)),
+            None => None,
+        }
+    }
+}

@@ -1,0 +1,272 @@
+//! Walks and look-ups over the file of a triangle: edges 1, 2 and 3 round face 1, nodes 1, 2 and 3.
+
+ghost use Rattle.std.specs.Prelude.{◌≡◌, ◌<◌, length};
+ghost use Rattle.scratch_region.specs.Marks.{room_of, IsEmpty};
+ghost use Rattle.pemb_file.specs.Served.{contents_of_view};
+
+use crate::{
+    Island, adjacent_walk, containing, ends, face_walk, island_walk, next, node_walk, ring_edges,
+    ring_walk, sides,
+};
+use bit_words::Steps;
+use pemb_file::{Served, open};
+use scratch_region::{Marks, Region};
+use std::alloc::Global;
+use std::marker::Brand;
+use std::sync::ledger::{Blank, Ledger};
+use std::test::Fail;
+use topo_base::{FaceId, NodeId, Signed};
+
+/// The words of the file.
+fn words() -> [u64; 35] {
+    [
+        5715155150441366864,
+        0,
+        10957890308165151572,
+        2625733522038518598,
+        11630827753001484381,
+        13594752115081446145,
+        3,
+        2,
+        1,
+        0,
+        0,
+        27,
+        17179869184,
+        3,
+        8589934592,
+        0,
+        1,
+        4294967296,
+        0,
+        25769803776,
+        0,
+        4294967298,
+        3,
+        1,
+        2,
+        12884901889,
+        2,
+        8589934592,
+        1,
+        1,
+        0,
+        0,
+        0,
+        0,
+        0,
+    ]
+}
+
+/// The bytes of these words, the lowest byte of each first.
+fn bytes(alloc: Global, words: &[u64]) -> Result<Vec<u8>, Fail> {
+    let mut bytes = Vec::new(alloc);
+    for word in words.iter() {
+        bytes.extend_from_slice(&word.to_le_bytes())?;
+    }
+    Ok(bytes)
+}
+
+/// What a walk round node 1, one on the ring of -2 and one along face 1 give, stepped in turn.
+fn stepped_in_turn<C: Ledger>(
+    alloc: Global,
+    bytes: &[u8],
+    blank: Blank,
+) -> Option<[[Option<Signed>; 3]; 4]>
+    requires name { blank.name ≡ C.name }
+    requires parts { blank.parts ≡ C.parts }
+    requires some { 0 < blank.parts }
+{
+    let mut steps = Steps::<C>::new(alloc, blank);
+    let served = open(bytes, &mut steps).ok()?;
+    let mut node = node_walk(served, NodeId(1), &mut steps)?;
+    let mut ring = ring_walk(served, Signed::new(-2)?, &mut steps)?;
+    let mut face = face_walk(served, FaceId(1), &mut steps)?;
+    Some([
+        [
+            node.step(&mut steps),
+            ring.step(&mut steps),
+            face.step(&mut steps),
+        ],
+        [
+            node.step(&mut steps),
+            ring.step(&mut steps),
+            face.step(&mut steps),
+        ],
+        [
+            node.step(&mut steps),
+            ring.step(&mut steps),
+            face.step(&mut steps),
+        ],
+        [
+            node.step(&mut steps),
+            ring.step(&mut steps),
+            face.step(&mut steps),
+        ],
+    ])
+}
+
+/// What is looked up for edge 1 and for two nodes, one of which the map lacks.
+#[derive(Clone, Copy, Debug, PartialEq, Eq)]
+struct LookUps {
+    next: Option<Signed>,
+    ends: Option<(NodeId, NodeId)>,
+    sides: Option<(FaceId, FaceId)>,
+    containing: Option<FaceId>,
+    unknown: Option<FaceId>,
+}
+
+fn look_ups<C: Ledger>(alloc: Global, bytes: &[u8], blank: Blank) -> Option<LookUps>
+    requires name { blank.name ≡ C.name }
+    requires parts { blank.parts ≡ C.parts }
+    requires some { 0 < blank.parts }
+{
+    let mut steps = Steps::<C>::new(alloc, blank);
+    let served = open(bytes, &mut steps).ok()?;
+    let one = Signed::new(1)?;
+    Some(LookUps {
+        next: next(served, one.reverse(), &mut steps),
+        ends: ends(served, one.reverse(), &mut steps),
+        sides: sides(served, one, &mut steps),
+        containing: containing(served, NodeId(1), &mut steps),
+        unknown: containing(served, NodeId(9), &mut steps),
+    })
+}
+
+/// The first two things in face 0.
+fn islands<C: Ledger>(alloc: Global, bytes: &[u8], blank: Blank) -> Option<[Option<Island>; 2]>
+    requires name { blank.name ≡ C.name }
+    requires parts { blank.parts ≡ C.parts }
+    requires some { 0 < blank.parts }
+{
+    let mut steps = Steps::<C>::new(alloc, blank);
+    let served = open(bytes, &mut steps).ok()?;
+    let mut walk = island_walk(served, FaceId(0), &mut steps)?;
+    Some([walk.step(&mut steps), walk.step(&mut steps)])
+}
+
+/// What the iterator over the ring of 1 yields.
+fn ring_of_one<C: Ledger>(alloc: Global, bytes: &[u8], blank: Blank) -> Option<[Option<Signed>; 4]>
+    requires name { blank.name ≡ C.name }
+    requires parts { blank.parts ≡ C.parts }
+    requires some { 0 < blank.parts }
+{
+    let mut counter = Steps::<C>::new(alloc, blank);
+    let served = open(bytes, &mut counter).ok()?;
+    let mut edges = ring_edges(served, Signed::new(1)?, counter)?;
+    Some([edges.next(), edges.next(), edges.next(), edges.next()])
+}
+
+/// The first two faces across the edges of a face. The marks are taken away again.
+fn two_neighbours<C: Ledger>(
+    served: Served<'_>,
+    face: FaceId,
+    marks: &mut Marks<'_>,
+    steps: &mut Steps<C>,
+) -> (Option<FaceId>, Option<FaceId>)
+    requires room { length (contents_of_view served).faces < room_of marks.old }
+    requires empty { IsEmpty marks.old }
+    ensures room { room_of marks.new ≡ room_of marks.old }
+    ensures empty { IsEmpty marks.new }
+{
+    let Some(mut walk) = adjacent_walk(served, face, steps) else {
+        return (None, None);
+    };
+    let first = walk.step(marks, steps);
+    let second = walk.step(marks, steps);
+    walk.close(marks, steps);
+    (first, second)
+}
+
+/// The neighbours of face 1 twice, and of face 0, on one set of marks.
+fn neighbours<C: Ledger>(
+    alloc: Global,
+    bytes: &[u8],
+    blank: Blank,
+) -> Option<[(Option<FaceId>, Option<FaceId>); 3]>
+    requires name { blank.name ≡ C.name }
+    requires parts { blank.parts ≡ C.parts }
+    requires some { 0 < blank.parts }
+{
+    let mut steps = Steps::<C>::new(alloc, blank);
+    let served = open(bytes, &mut steps).ok()?;
+    let mut lent = [0; 1];
+    let Ok((mut marks, _left)) = Region::new(&mut lent).carve(1) else {
+        return None;
+    };
+    if served.faces().count() >= marks.room() {
+        return None;
+    }
+    Some([
+        two_neighbours(served, FaceId(1), &mut marks, &mut steps),
+        two_neighbours(served, FaceId(1), &mut marks, &mut steps),
+        two_neighbours(served, FaceId(0), &mut marks, &mut steps),
+    ])
+}
+
+#[test]
+fn walks_stepped_in_turn(rt: HostRuntime) -> Result<(), Fail> {
+    let alloc = rt.alloc();
+    let bytes = bytes(alloc, &words())?;
+    let want = [
+        [Signed::new(1), Signed::new(-2), Signed::new(1)],
+        [Signed::new(-3), Signed::new(-1), Signed::new(2)],
+        [None, Signed::new(-3), Signed::new(3)],
+        [None, None, None],
+    ];
+    assert_eq!(rt;
+        stepped_in_turn::<Brand>(alloc, &bytes, Blank::new(1)),
+        Some(want)
+    );
+    Ok(())
+}
+
+#[test]
+fn edges_and_nodes_are_looked_up(rt: HostRuntime) -> Result<(), Fail> {
+    let alloc = rt.alloc();
+    let bytes = bytes(alloc, &words())?;
+    let want = LookUps {
+        next: Signed::new(-3),
+        ends: Some((NodeId(2), NodeId(1))),
+        sides: Some((FaceId(1), FaceId(0))),
+        containing: Some(FaceId(0)),
+        unknown: None,
+    };
+    assert_eq!(rt; look_ups::<Brand>(alloc, &bytes, Blank::new(1)), Some(want));
+    Ok(())
+}
+
+#[test]
+fn a_triangle_is_an_island_and_a_ring(rt: HostRuntime) -> Result<(), Fail> {
+    let alloc = rt.alloc();
+    let bytes = bytes(alloc, &words())?;
+    let Some(edge) = Signed::new(-1) else {
+        return Err(Fail::new("no signed edge"));
+    };
+    assert_eq!(rt;
+        islands::<Brand>(alloc, &bytes, Blank::new(1)),
+        Some([Some(Island::Edge(edge)), None])
+    );
+    let want = [Signed::new(1), Signed::new(2), Signed::new(3), None];
+    assert_eq!(rt;
+        ring_of_one::<Brand>(alloc, &bytes, Blank::new(1)),
+        Some(want)
+    );
+    Ok(())
+}
+
+#[test]
+fn neighbours_come_twice_on_one_set_of_marks(rt: HostRuntime) -> Result<(), Fail> {
+    let alloc = rt.alloc();
+    let bytes = bytes(alloc, &words())?;
+    let want = [
+        (Some(FaceId(0)), None),
+        (Some(FaceId(0)), None),
+        (Some(FaceId(1)), None),
+    ];
+    assert_eq!(rt;
+        neighbours::<Brand>(alloc, &bytes, Blank::new(1)),
+        Some(want)
+    );
+    Ok(())
+}
