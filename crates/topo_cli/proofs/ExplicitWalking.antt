@@ -3,19 +3,19 @@ use Rattle.std.proofs.Common.{◌≡◌, ℕ, suc, ◌+◌, ◌-◌, ◌<◌, �
 use Rattle.std.proofs.lemmas.List.{append-nil}
 use Rattle.topo_base.specs.SignedEdge.{same_edge}
 use Rattle.topo_base.specs.Script.{Item, item_text}
-use Rattle.plane_model.specs.PlaneMap.{until_return}
+use Rattle.orbits.specs.Walks as walks
 use Rattle.topo_cli.specs.ExplicitWalks.{walk_text}
 
 goes_on : (n : ℕ) (step : ℤ → ℤ) (first d : ℤ) → same_edge (step d) first ≡ false → walk_text (suc n) step first d ≡ item_text (Item.Signed_edge d) ++ walk_text n step first (step d)
-unfolding until_return
+unfolding walks.until_return
 goes_on n step first d h = rw h refl
 
 comes_back : (n : ℕ) (step : ℤ → ℤ) (first d : ℤ) → same_edge (step d) first ≡ true → walk_text (suc n) step first d ≡ item_text (Item.Signed_edge d)
-unfolding until_return
+unfolding walks.until_return
 comes_back n step first d h = rw h (append-nil _)
 
 walk-none : (step : ℤ → ℤ) (first d : ℤ) → walk_text 0 step first d ≡ []
-unfolding until_return
+unfolding walks.until_return
 walk-none step first d = refl
 
 -- the walk goes on behind a signed edge that is appended

@@ -2,9 +2,11 @@ pub mod Loads
 pub mod Front
 pub mod LineLemmas
 pub mod Written
-pub mod Statuses
-pub mod Complete
 pub mod Taken
+pub mod Complete
+pub mod Statuses
+pub mod Asked
+pub mod Built
 pub mod ExplicitDarts
 pub mod ExplicitWalking
 pub mod ExplicitLeast
@@ -13,4 +15,4 @@ pub mod ExplicitItems
 pub mod Containers
 pub mod MapOfTables
 pub mod Checks
-pub mod Served
+pub mod CountsLine

@@ -1,5 +1,5 @@
 -- What was read of a table, where the files are told.
-use Rattle.std.proofs.Common.{◌≡◌, ℕ, ◌≤◌, List, [], length, Option, Some, None, Result, Ok, Err, refl, sym, ap, subst, ◌∙◌, IfSome, IfErr, IsErrAnd, IsTrue}
+use Rattle.std.proofs.Common.{◌≡◌, ℕ, ◌≤◌, List, [], length, Option, Some, None, Result, Ok, Err, refl, sym, ap, subst, ◌∙◌, IfSome, IfOk, IfErr, IsErrAnd, IsTrue, OnOk, Vec, Global}
 use Rattle.std.proofs.lemmas.Bool.{lt-ltb, le-ltb}
 use Rattle.ports.specs.Outside.{Files}
 use Rattle.topo_base.specs.declared.refusal.Refusal.{Refusal}
@@ -8,7 +8,7 @@ use Rattle.topo_csv.specs.declared.fault.CsvFault.TheVariants as csv
 use Rattle.topo_csv.specs.Fault.{IsFault}
 use Rattle.topo_cli.specs.Limits.{most_bytes}
 use Rattle.topo_cli.specs.Files.{IsWhole}
-use Rattle.topo_cli.specs.Tables.{◌>>=◌, Ending, table, read_by, read_or_missing, or_refused, loaded, checked, served}
+use Rattle.topo_cli.specs.Tables.{◌>>=◌, Ending, table, read_by, read_or_missing, or_refused, loaded, checked, served, opened, opened_or_missing, unless_unlawful}
 use Rattle.topo_cli.specs.Words.{node_table, edge_table, face_table}
 use Rattle.plane_model.specs.Rows.{Rows}
 use Rattle.plane_model.specs.InRange.{is_in_range}
@@ -25,7 +25,13 @@ use Rattle.plane_model.specs.declared.rows.FaceRow.{FaceRow}
 use Rattle.plane_model.specs.declared.rows.RegionRow.{RegionRow}
 use Rattle.plane_model.specs.declared.rows.MemberRow.{MemberRow}
 use Rattle.plane_model.specs.Reading.{node_rows, edge_rows, face_rows}
-use Rattle.topo_cli.specs.Loading.{IsEnding, Ends, IsStopped, IsSame, IsSameCheck, NamesOnly, Serves}
+use Rattle.topo_cli.specs.Loading.{Builds, IsEnding, IsSameBuild, IsLineOf, IsUnlawful, Ends, IsStopped, IsSame, IsSameCheck, NamesOnly, Serves}
+use Rattle.map_build.specs.BuildFaults.{Names as NamesFault}
+use Rattle.map_build.specs.declared.fault.BuildFault.{BuildFault}
+use Rattle.map_build.specs.declared.fault.BuildFault.TheVariants as build
+use Rattle.topo_cli.specs.Outcome.{IsImageOf}
+use Rattle.topo_cli.specs.Text.{lawful_line}
+use Rattle.pemb_file.specs.Lawful.{first_fault as file_fault, map_of_file}
 use Rattle.topo_cli.specs.declared.load.LoadFault.{LoadFault}
 use Rattle.topo_cli.specs.declared.load.LoadFault.TheVariants as fault
 
@@ -56,6 +62,7 @@ table_stopped read (Some files) name (fault.Missing said) stopped named = ap (re
 table_stopped read (Some files) name fault.ReadFault stopped named = tt
 table_stopped read (Some files) name fault.TooLong stopped named = ap (read_or_missing read name) stopped.1 ∙ rw (lt-ltb most_bytes (length stopped.0) stopped.2) refl
 table_stopped read (Some files) name (fault.Refused r) stopped named = absurd stopped
+table_stopped read (Some files) name (fault.Unlawful g) stopped named = absurd stopped
 table_stopped read (Some files) name fault.Memory stopped named = tt
 
 -- what holds of the error that there is
@@ -97,6 +104,7 @@ ended (fault.Missing name) r next is = rw is refl
 ended fault.ReadFault r next is = tt
 ended fault.TooLong r next is = rw is refl
 ended (fault.Refused why) r next is = rw is refl
+ended (fault.Unlawful why) r next is = rw is refl
 ended fault.Memory r next is = tt
 
 pub ends_at_nodes : (files : Option Files) (dir : List ℕ) (e : LoadFault) → Ends files (λ f. table node_rows f (node_table dir)) e → Ends files (λ f. loaded f dir) e
@@ -136,3 +144,75 @@ unfolding checked
 ends_at_check None dir t why e l is same = tt
 ends_at_check (Some files) dir t (check.Refused r) e l is same = rw (same, l, is) refl
 ends_at_check (Some files) dir t check.Memory e l is same = rw same tt
+
+pub ends_at_build : (files : Option Files) (dir : List ℕ) (t : Rows) (why : BuildFault) (e : LoadFault)
+    → IfSome files (λ f. loaded f dir ≡ Ok t) → NamesFault why (first_fault t) → IsSameBuild why e → Ends files (λ f. served f dir) e
+unfolding checked
+ends_at_build None dir t why e l is same = tt
+ends_at_build (Some files) dir t (build.Refused r) e l is same = rw (same, l, is) refl
+ends_at_build (Some files) dir t build.Memory e l is same = rw same tt
+
+-- an image of tables that were loaded
+pub builds : (files : Option Files) (dir : List ℕ) (t : Rows) (image : List ℕ)
+    → IfSome files (λ f. loaded f dir ≡ Ok t) → IsTrue (is_in_range t) → IsTrue (is_consistent t) → IsImageOf t image → IfSome files (λ f. Builds image (served f dir))
+unfolding checked
+builds None dir t image l r consistent is = tt
+builds (Some files) dir t image l r consistent is =
+    let fine : first_fault t ≡ None = None_from _ _ (none-first_fault t r) consistent in
+    rw (l, fine) (consistent, is)
+
+-- what stopped the reading of a file
+stopped_file : (files : Option Files) (name : List ℕ) (e : LoadFault) → IsStopped files name e → NamesOnly name e → Ends files (λ f. opened f name) e
+unfolding opened
+stopped_file None name e stopped named = tt
+stopped_file (Some files) name (fault.Missing said) stopped named = ap (opened_or_missing name) stopped ∙ ap (λ n. Err (Ending.Missing n)) (sym named)
+stopped_file (Some files) name fault.ReadFault stopped named = tt
+stopped_file (Some files) name fault.TooLong stopped named = ap (opened_or_missing name) stopped.1 ∙ rw (lt-ltb most_bytes (length stopped.0) stopped.2) refl
+stopped_file (Some files) name (fault.Refused r) stopped named = absurd stopped
+stopped_file (Some files) name (fault.Unlawful g) stopped named = absurd stopped
+stopped_file (Some files) name fault.Memory stopped named = tt
+
+pub file_stopped : (files : Option Files) (said name : List ℕ) (e : LoadFault) → said ≡ name → IsStopped files said e → NamesOnly said e → Ends files (λ f. opened f name) e
+file_stopped files said name e named stopped only =
+    let P : List ℕ → Type 0 = λ n. IsStopped files n e in
+    let Q : List ℕ → Type 0 = λ n. NamesOnly n e in
+    stopped_file files name e (subst P named stopped) (subst Q named only)
+
+-- bytes within the limit are looked through
+opened_is : (files : Files) (name bytes : List ℕ) → files name ≡ Some bytes → length bytes ≤ most_bytes → opened files name ≡ unless_unlawful bytes (file_fault bytes)
+unfolding opened
+opened_is files name bytes is h = ap (opened_or_missing name) is ∙ rw (le-ltb most_bytes (length bytes) h) refl
+
+file_unlawful : (files : Option Files) (name bytes : List ℕ) (e : LoadFault) → IsWhole files name bytes → length bytes ≤ most_bytes → IsUnlawful bytes e → Ends files (λ f. opened f name) e
+file_unlawful None name bytes e whole h is = tt
+file_unlawful (Some files) name bytes (fault.Missing said) whole h is = absurd is
+file_unlawful (Some files) name bytes fault.ReadFault whole h is = absurd is
+file_unlawful (Some files) name bytes fault.TooLong whole h is = absurd is
+file_unlawful (Some files) name bytes (fault.Refused r) whole h is = absurd is
+file_unlawful (Some files) name bytes (fault.Unlawful g) whole h is = opened_is files name bytes whole h ∙ ap (unless_unlawful bytes) is
+file_unlawful (Some files) name bytes fault.Memory whole h is = tt
+
+file_lawful : (files : Option Files) (name bytes line : List ℕ) → IsWhole files name bytes → length bytes ≤ most_bytes → file_fault bytes ≡ None → line ≡ lawful_line (map_of (map_of_file bytes))
+    → IfSome files (λ f. IsLineOf line (opened f name))
+file_lawful None name bytes line whole h fine is = tt
+file_lawful (Some files) name bytes line whole h fine is =
+    let P : Result Rows Ending → Type 0 = IsLineOf line in
+    subst P (sym (opened_is files name bytes whole h ∙ ap (unless_unlawful bytes) fine)) is
+
+-- the same of the results of a call that was handed these bytes
+pub lawful_at : {E : Type 0} (files : Option Files) (said name bytes seen : List ℕ) (r : Result (Vec ℕ Global) E) → said ≡ name → seen ≡ bytes → IsWhole files said bytes → length bytes ≤ most_bytes
+    → OnOk r (file_fault seen ≡ None) → IfOk r (λ line. line.items ≡ lawful_line (map_of (map_of_file seen))) → IfOk r (λ line. IfSome files (λ f. IsLineOf line.items (opened f name)))
+lawful_at files said name bytes seen (Ok line) named same whole h fine is =
+    let P : List ℕ → Type 0 = λ n. IsWhole files n bytes in
+    let Q : List ℕ → Type 0 = λ b. file_fault b ≡ None in
+    let R : List ℕ → Type 0 = λ b. line.items ≡ lawful_line (map_of (map_of_file b)) in
+    file_lawful files name bytes line.items (subst P named whole) h (subst Q same fine) (subst R same is)
+lawful_at files said name bytes seen (Err e) named same whole h fine is = tt
+
+pub unlawful_at : {A : Type 0} (files : Option Files) (said name bytes seen : List ℕ) (r : Result A LoadFault) → said ≡ name → seen ≡ bytes → IsWhole files said bytes → length bytes ≤ most_bytes
+    → IfErr r (IsUnlawful seen) → IfErr r (Ends files (λ f. opened f name))
+unlawful_at files said name bytes seen (Ok line) named same whole h is = tt
+unlawful_at files said name bytes seen (Err e) named same whole h is =
+    let P : List ℕ → Type 0 = λ n. IsWhole files n bytes in
+    let Q : List ℕ → Type 0 = λ b. IsUnlawful b e in
+    file_unlawful files name bytes e (subst P named whole) h (subst Q same is)

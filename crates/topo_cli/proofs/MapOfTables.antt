@@ -7,13 +7,14 @@ use Rattle.std.proofs.lemmas.List.{length-map}
 use Rattle.std.proofs.lemmas.List.Sorted.{length_permutation}
 use Rattle.topo_base.specs.Script as script
 use Rattle.topo_base.specs.Script.{Line, Query}
+use Rattle.orbits.specs.Walks as walks
 use Rattle.plane_model.specs.declared.rows.FaceRow.{FaceRow}
 use Rattle.plane_model.specs.declared.rows.RegionRow.{RegionRow}
 use Rattle.plane_model.specs.declared.rows.MemberRow.{MemberRow}
 use Rattle.plane_model.specs.Rows.{Rows}
 use Rattle.plane_model.specs.InRange.{is_in_range}
 use Rattle.plane_model.specs.Sets.{has_edge, rising, or_else}
-use Rattle.plane_model.specs.PlaneMap.{PlaneMap, map_of, signed_edges, side, leaving, until_return}
+use Rattle.plane_model.specs.PlaneMap.{PlaneMap, map_of, signed_edges, side, leaving}
 use Rattle.plane_model.specs.Rotation.{is_rotation_system, node_face}
 use Rattle.plane_model.specs.Component.{component, components, is_plane}
 use Rattle.plane_model.specs.Faces.{is_labelled, is_placed, outer_ring, outer_rings}
@@ -144,7 +145,7 @@ are_other t faces few is =
 
 -- what is answered from nodes and edges is the same with faces
 pub rotation_answers : (r : RotationRows) (faces : List FaceRow) (l : Line) → IsOfRotation l → after_colon_of (map_of (rows_with_faces r faces)) l ≡ after_colon_of (map_of_rotation r) l
-unfolding signed_edges until_return
+unfolding signed_edges walks.until_return
 rotation_answers r faces script.Long of = absurd of
 rotation_answers r faces script.Blank of = absurd of
 rotation_answers r faces script.Bad of = absurd of

@@ -1,9 +1,9 @@
 -- What was taken of a script, where it is told.
-use Rattle.std.proofs.Common.{◌≡◌, ℕ, ◌<◌, List, [], ◌++◌, ◌∷◌, length, Option, Some, None, refl, sym, ap, ◌∙◌, append_assoc, append-nil, arith, IfSome, length-append}
+use Rattle.std.proofs.Common.{◌≡◌, ℕ, ◌<◌, ◌≤◌, List, [], ◌++◌, ◌∷◌, length, Option, Some, None, refl, sym, ap, ◌∙◌, append_assoc, append-nil, subst, arith, IfSome, length-append}
 use Rattle.std.specs.Io.KnownBytes.{Consumes}
 use Rattle.ports.specs.Outside.{IsEndAt, IsReadToEnd}
 use Rattle.topo_cli.specs.Limits.{most_bytes}
-use Rattle.topo_cli.specs.Outcome.{TookTooMuch}
+use Rattle.topo_cli.specs.Outcome.{TookAtMost, TookTooMuch}
 
 pub consumes_more : (a b c : Option (List ℕ)) (xs ys : List ℕ) → Consumes a b xs → Consumes b c ys → Consumes a c (xs ++ ys)
 consumes_more None b c xs ys p q = tt
@@ -29,3 +29,15 @@ pub took_too_much : (a b : Option (List ℕ)) (xs : List ℕ) → Consumes a b x
 took_too_much None b xs p h = tt
 took_too_much (Some a) None xs p h = p
 took_too_much (Some a) (Some b) xs p h = omega (arith, ap length p, length-append xs b)
+
+pub took_at_most : (most : ℕ) (a b : Option (List ℕ)) (xs : List ℕ) → Consumes a b xs → length xs ≤ most → TookAtMost most a b
+took_at_most most None b xs p h = tt
+took_at_most most (Some a) None xs p h = p
+took_at_most most (Some a) (Some b) xs p h = omega (arith, ap length p, length-append xs b)
+
+pub took_nothing : (most : ℕ) (a b : Option (List ℕ)) → b ≡ a → TookAtMost most a b
+took_nothing most a b e = let P : Option (List ℕ) → Type 0 = λ o. TookAtMost most a o in subst P (sym e) (same a)
+  where
+    same : (o : Option (List ℕ)) → TookAtMost most o o
+    same None = tt
+    same (Some xs) = omega arith

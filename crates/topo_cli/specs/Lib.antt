@@ -1,7 +1,8 @@
 pub mod Limits
 pub mod Words
-pub mod Text
+pub mod Call
 pub mod Tables
+pub mod Text
 pub mod Answering
 pub mod Outcome
 pub mod Files
@@ -10,4 +11,5 @@ pub mod Exit
 pub mod ExplicitWalks
 pub mod ExplicitFirsts
 pub mod Contained
-pub mod Serving
+pub mod Ended
+pub mod Taking

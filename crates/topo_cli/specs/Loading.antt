@@ -1,13 +1,18 @@
--- What stopped the loading of tables.
-use Rattle.std.specs.Prelude.{◌≡◌, ℕ, List, Option, IfSome, Result, Ok, Err, IsTrue, string_bytes, ⊤}
+-- What stopped the loading of tables or of a file.
+use Rattle.std.specs.Prelude.{◌≡◌, ℕ, List, Option, Some, IfSome, Result, Ok, Err, IsTrue, string_bytes, ⊤}
 use Rattle.ports.specs.Outside.{Files, IsNotHeld, Rose}
 use Rattle.topo_cli.specs.Files.{IsLongFile}
-use Rattle.topo_cli.specs.Tables.{Ending, IsNeeded}
+use Rattle.topo_cli.specs.Tables.{Ending, IsTable}
+use Rattle.topo_cli.specs.Text.{lawful_line}
+use Rattle.topo_cli.specs.Outcome.{IsImageOf}
+use Rattle.pemb_file.specs.Lawful.{first_fault as file_fault}
 use Rattle.plane_model.specs.Rows.{Rows}
 use Rattle.plane_model.specs.PlaneMap.{map_of}
 use Rattle.plane_model.specs.Consistent.{is_consistent}
 use Rattle.rotation_check.specs.declared.checks.CheckFault.{CheckFault}
 use Rattle.rotation_check.specs.declared.checks.CheckFault.TheVariants as check
+use Rattle.map_build.specs.declared.fault.BuildFault.{BuildFault}
+use Rattle.map_build.specs.declared.fault.BuildFault.TheVariants as build
 use Rattle.topo_csv.specs.declared.fault.CsvFault.{CsvFault}
 use Rattle.topo_csv.specs.declared.fault.CsvFault.TheVariants as csv
 use Rattle.topo_cli.specs.declared.load.LoadFault.{LoadFault}
@@ -19,6 +24,7 @@ IsEnding (fault.Missing name) read = read ≡ Err (Ending.Missing (string_bytes 
 IsEnding fault.ReadFault read = ⊤
 IsEnding fault.TooLong read = read ≡ Err Ending.Long
 IsEnding (fault.Refused e) read = read ≡ Err (Ending.Refused e)
+IsEnding (fault.Unlawful e) read = read ≡ Err (Ending.Unlawful e)
 IsEnding fault.Memory read = ⊤
 
 -- the same, where the files are told
@@ -31,17 +37,26 @@ IsShown (fault.Missing name) misses misses' faults faults' = Rose misses misses'
 IsShown fault.ReadFault misses misses' faults faults' = Rose faults faults'
 IsShown fault.TooLong misses misses' faults faults' = ⊤
 IsShown (fault.Refused e) misses misses' faults faults' = ⊤
+IsShown (fault.Unlawful e) misses misses' faults faults' = ⊤
 IsShown fault.Memory misses misses' faults faults' = ⊤
 
--- what is missing is this name
+-- what is missing is this name, and no file is unlawful
 abbrev pub NamesOnly : List ℕ → LoadFault → Type 0
 NamesOnly name (fault.Missing named) = string_bytes named ≡ name
+NamesOnly name (fault.Unlawful e) = ⊥
 NamesOnly name e = ⊤
 
--- what is missing is one of the names that a folder needs
+-- what is missing is one of the names that a folder needs, and no file is unlawful
 abbrev pub NamesNeeded : List ℕ → LoadFault → Type 0
-NamesNeeded dir (fault.Missing name) = IsNeeded dir (string_bytes name)
+NamesNeeded dir (fault.Missing name) = IsTable dir (string_bytes name)
+NamesNeeded dir (fault.Unlawful e) = ⊥
 NamesNeeded dir e = ⊤
+
+-- what is missing is this file, and no tables are refused
+abbrev pub NamesFile : List ℕ → LoadFault → Type 0
+NamesFile name (fault.Missing named) = string_bytes named ≡ name
+NamesFile name (fault.Refused e) = ⊥
+NamesFile name e = ⊤
 
 -- the fault of reading rows, as one of loading
 abbrev pub IsSame : CsvFault → LoadFault → Type 0
@@ -65,6 +80,11 @@ abbrev pub IsSameCheck : CheckFault → LoadFault → Type 0
 IsSameCheck (check.Refused why) e = e ≡ fault.Refused why
 IsSameCheck check.Memory e = e ≡ fault.Memory
 
+-- the fault of building, as one of loading
+abbrev pub IsSameBuild : BuildFault → LoadFault → Type 0
+IsSameBuild (build.Refused why) e = e ≡ fault.Refused why
+IsSameBuild build.Memory e = e ≡ fault.Memory
+
 -- tables are consistent, and these have their map
 pub record IsMapOf (m t : Rows) : Type 0 where
   pub consistent : IsTrue (is_consistent t)
@@ -73,3 +93,22 @@ pub record IsMapOf (m t : Rows) : Type 0 where
 abbrev pub Serves : Rows → Result Rows Ending → Type 0
 Serves m (Ok t) = IsMapOf m t
 Serves m (Err e) = ⊥
+
+-- the bytes are no lawful file, for this reason
+abbrev pub IsUnlawful : List ℕ → LoadFault → Type 0
+IsUnlawful bytes (fault.Missing name) = ⊥
+IsUnlawful bytes fault.ReadFault = ⊥
+IsUnlawful bytes fault.TooLong = ⊥
+IsUnlawful bytes (fault.Refused e) = ⊥
+IsUnlawful bytes (fault.Unlawful e) = file_fault bytes ≡ Some e
+IsUnlawful bytes fault.Memory = ⊤
+
+-- the line of the map of a lawful file
+abbrev pub IsLineOf : List ℕ → Result Rows Ending → Type 0
+IsLineOf line (Ok t) = line ≡ lawful_line (map_of t)
+IsLineOf line (Err e) = ⊥
+
+-- an image of tables that are consistent
+abbrev pub Builds : List ℕ → Result Rows Ending → Type 0
+Builds image (Ok t) = IsTrue (is_consistent t) × IsImageOf t image
+Builds image (Err e) = ⊥

@@ -1,4 +1,4 @@
--- What comes of the tables of a folder.
+-- What comes of the tables of a folder, and of a built file.
 use Rattle.std.specs.Prelude.{◌≡◌, ℕ, ◌⊎◌, nat_lt, if◌then◌else◌, List, [], length, Option, Some, None, Result, Ok, Err}
 use Rattle.ports.specs.Outside.{Files}
 use Rattle.topo_base.specs.declared.refusal.Refusal.{Refusal}
@@ -6,15 +6,21 @@ use Rattle.plane_model.specs.Rows.{Rows}
 use Rattle.plane_model.specs.Reading.{node_rows, edge_rows, face_rows}
 use Rattle.plane_model.specs.Faults.{first_fault}
 use Rattle.topo_cli.specs.Limits.{most_bytes}
-use Rattle.topo_cli.specs.Words.{node_table, edge_table, face_table}
+use Rattle.pemb_file.specs.Lawful.{first_fault as file_fault, map_of_file}
+use Rattle.pemb_file.specs.declared.fault.FileFault.{FileFault}
+use Rattle.topo_cli.specs.Words.{Form, node_table, edge_table, face_table}
 
--- why tables are not served
+-- why there are no tables
 pub data Ending : Type 0 where
+  -- the words are of no form
+  NoForm : Ending
   -- no file is held under this name
   Missing : List ℕ → Ending
-  -- a table has too many bytes
+  -- a table or a file has too many bytes
   Long : Ending
   Refused : Refusal → Ending
+  -- a file is not lawful
+  Unlawful : FileFault → Ending
 
 infixl 10 ◌>>=◌
 abbrev pub ◌>>=◌ : {A B : Type 0} → Result A Ending → (A → Result B Ending) → Result B Ending
@@ -56,6 +62,34 @@ loaded files dir = do
 abbrev pub served : Files → List ℕ → Result Rows Ending
 served files dir = loaded files dir >>= checked
 
+-- the tables that the bytes of a built file stand for, where they are lawful
+abbrev pub unless_unlawful : List ℕ → Option FileFault → Result Rows Ending
+unless_unlawful bytes None = Ok (map_of_file bytes)
+unless_unlawful bytes (Some e) = Err (Unlawful e)
+
+abbrev pub opened_by : List ℕ → Result Rows Ending
+opened_by bytes = if nat_lt most_bytes (length bytes) then Err Long else unless_unlawful bytes (file_fault bytes)
+
+abbrev pub opened_or_missing : List ℕ → Option (List ℕ) → Result Rows Ending
+opened_or_missing name None = Err (Missing name)
+opened_or_missing name (Some bytes) = opened_by bytes
+
+-- the tables of a built file
+unfoldable pub opened : Files → List ℕ → Result Rows Ending
+opened files name = opened_or_missing name (files name)
+
+-- the tables that a form of words asks for
+abbrev pub subject : Files → Form → Result Rows Ending
+subject files (Form.Ask dir) = served files dir
+subject files (Form.Build dir file) = served files dir
+subject files (Form.Check file) = opened files file
+
 -- one of the names that a folder needs
-abbrev pub IsNeeded : List ℕ → List ℕ → Type 0
-IsNeeded dir name = (name ≡ node_table dir) ⊎ (name ≡ edge_table dir) ⊎ (name ≡ face_table dir)
+abbrev pub IsTable : List ℕ → List ℕ → Type 0
+IsTable dir name = (name ≡ node_table dir) ⊎ (name ≡ edge_table dir) ⊎ (name ≡ face_table dir)
+
+-- one of the names that a form of words needs
+abbrev pub IsNeeded : Form → List ℕ → Type 0
+IsNeeded (Form.Ask dir) name = IsTable dir name
+IsNeeded (Form.Build dir file) name = IsTable dir name
+IsNeeded (Form.Check file) name = name ≡ file

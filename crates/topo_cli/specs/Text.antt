@@ -7,6 +7,15 @@ use Rattle.topo_base.specs.declared.refusal.Column.{Column}
 use Rattle.topo_base.specs.declared.refusal.Refusal.{Refusal}
 use Rattle.topo_base.specs.declared.refusal.Refusal.TheVariants as refusal
 use Rattle.plane_model.specs.Reading.{column_name}
+use Rattle.plane_model.specs.PlaneMap.{PlaneMap}
+use Rattle.plane_model.specs.Answers.{after_colon, items}
+use Rattle.topo_base.specs.Script.{Query}
+use Rattle.code_laws.specs.declared.seq_fault.SeqFault.{SeqFault}
+use Rattle.code_laws.specs.declared.seq_fault.SeqFault.TheVariants as seq
+use Rattle.pemb_file.specs.declared.counts.Counts.{Counts}
+use Rattle.pemb_file.specs.declared.fault.FileFault.{FileFault}
+use Rattle.pemb_file.specs.declared.fault.FileFault.TheVariants as file
+use Rattle.topo_cli.specs.Tables.{Ending}
 
 abbrev pub table_name : Table → List ℕ
 table_name table.Node = codes "node"
@@ -57,11 +66,49 @@ refusal_text (refusal.NoRegion t id region) = codes "F20" ++ shown_table t ++ sh
 refusal_text (refusal.RegionCycle region) = codes "F21" ++ shown_number (codes "region") region
 refusal_text (refusal.MemberTwice face) = codes "F22" ++ shown_number (codes "face") face
 
-abbrev pub usage_line : List ℕ
-usage_line = codes "usage" ++ 10 ∷ []
+-- what stands of a fault of the sequences behind its number
+abbrev pub seq_text : SeqFault → List ℕ
+seq_text (seq.Starts index) = codes " starts" ++ shown_number (codes "index") index
+seq_text (seq.Ones found) = codes " ones" ++ shown_number (codes "found") found
+seq_text (seq.Tree component) = codes " tree" ++ shown_number (codes "component") component
+seq_text (seq.Dual component) = codes " dual" ++ shown_number (codes "component") component
 
-abbrev pub missing_line : List ℕ → List ℕ
-missing_line name = codes "missing " ++ name ++ 10 ∷ []
+-- the number of a fault of a file, and its fields in order
+abbrev pub file_fault_text : FileFault → List ℕ
+file_fault_text (file.NotWords bytes) = codes "G1" ++ shown_number (codes "bytes") bytes
+file_fault_text (file.NotPemb words) = codes "G2" ++ shown_number (codes "words") words
+file_fault_text (file.UnknownForm form) = codes "G3" ++ shown_number (codes "form") form
+file_fault_text (file.Length want have) = codes "G4" ++ shown_number (codes "want") want ++ shown_number (codes "have") have
+file_fault_text (file.Digest at) = codes "G5" ++ shown_number (codes "at") at
+file_fault_text (file.Count word found) = codes "G6" ++ shown_number (codes "word") word ++ shown_number (codes "found") found
+file_fault_text (file.Sequence e) = codes "G7" ++ seq_text e
+file_fault_text (file.Directory section at want found) =
+    codes "G8" ++ shown_number (codes "section") section ++ shown_number (codes "at") at ++ shown_number (codes "want") want ++ shown_number (codes "found") found
+file_fault_text (file.Name section at) = codes "G9" ++ shown_number (codes "section") section ++ shown_number (codes "at") at
+file_fault_text (file.Place section at) = codes "G10" ++ shown_number (codes "section") section ++ shown_number (codes "at") at
+file_fault_text (file.Start component) = codes "G11" ++ shown_number (codes "component") component
+file_fault_text (file.RegionPart section at) = codes "G12" ++ shown_number (codes "section") section ++ shown_number (codes "at") at
+file_fault_text (file.Padding word) = codes "G13" ++ shown_number (codes "word") word
 
-abbrev pub refused_line : Refusal → List ℕ
-refused_line e = codes "refused " ++ refusal_text e ++ 10 ∷ []
+-- the five counts that are shown
+abbrev pub five : Counts → List ℕ
+five counts = counts.nodes ∷ counts.edges ∷ counts.faces ∷ counts.components ∷ counts.regions ∷ []
+
+-- a word and the five counts of a map
+abbrev pub counts_line : List ℕ → PlaneMap → List ℕ
+counts_line word m = word ++ after_colon (items m Query.Counts) ++ 10 ∷ []
+
+abbrev pub built_line : PlaneMap → List ℕ
+built_line m = counts_line (codes "built") m
+
+abbrev pub lawful_line : PlaneMap → List ℕ
+lawful_line m = counts_line (codes "lawful") m
+
+-- the line that the program writes where nothing is served: of the words, the missing name or the first fault
+abbrev pub status_line : Ending → List ℕ
+status_line Ending.NoForm = codes "usage" ++ 10 ∷ []
+status_line (Ending.Missing name) = codes "missing " ++ name ++ 10 ∷ []
+-- a table or a file that is too long has no line
+status_line Ending.Long = []
+status_line (Ending.Refused e) = codes "refused " ++ refusal_text e ++ 10 ∷ []
+status_line (Ending.Unlawful e) = codes "refused " ++ file_fault_text e ++ 10 ∷ []

@@ -1,16 +1,40 @@
 -- The words that the program is given.
 use Rattle.std.specs.Prelude.{ℕ, if◌then◌else◌, List, [], ◌∷◌, ◌++◌, Option, Some, None, codes, bytes_eq}
+use Rattle.topo_cli.specs.declared.command.Command.{Command}
+use Rattle.topo_cli.specs.declared.command.Command.TheVariants as command
 
-abbrev pub named_folder : List ℕ → List ℕ → Option (List ℕ)
-named_folder word [] = None
-named_folder word (b ∷ bytes) = if bytes_eq word (codes "ask") then Some (b ∷ bytes) else None
+-- What words ask for. Each name has at least one byte.
+pub data Form : Type 0 where
+  -- `ask DIR`: answers to the script, from the tables of a folder
+  Ask : List ℕ → Form
+  -- `build DIR FILE`: the image of a folder's tables, written to a file
+  Build : List ℕ → List ℕ → Form
+  -- `check FILE`: whether a file is lawful
+  Check : List ℕ → Form
 
--- the folder that the words `ask DIR` name
-abbrev pub folder : List (List ℕ) → Option (List ℕ)
-folder (word ∷ dir ∷ []) = named_folder word dir
-folder [] = None
-folder (word ∷ []) = None
-folder (word ∷ dir ∷ third ∷ more) = None
+abbrev pub form_of_two : List ℕ → List ℕ → Option Form
+form_of_two word [] = None
+form_of_two word (b ∷ name) =
+    if bytes_eq word (codes "ask") then Some (Ask (b ∷ name)) else if bytes_eq word (codes "check") then Some (Check (b ∷ name)) else None
+
+abbrev pub form_of_three : List ℕ → List ℕ → List ℕ → Option Form
+form_of_three word [] file = None
+form_of_three word (b ∷ dir) [] = None
+form_of_three word (b ∷ dir) (c ∷ file) = if bytes_eq word (codes "build") then Some (Build (b ∷ dir) (c ∷ file)) else None
+
+-- the form of words, where they are of one
+abbrev pub form : List (List ℕ) → Option Form
+form [] = None
+form (word ∷ []) = None
+form (word ∷ name ∷ []) = form_of_two word name
+form (word ∷ dir ∷ file ∷ []) = form_of_three word dir file
+form (word ∷ dir ∷ file ∷ fourth ∷ more) = None
+
+-- what the code keeps of it
+abbrev pub form_of : Command → Form
+form_of (command.Ask dir) = Ask dir.now
+form_of (command.Build dir file) = Build dir.now file.now
+form_of (command.Check file) = Check file.now
 
 -- the names of a folder's tables
 abbrev pub node_table : List ℕ → List ℕ

@@ -2,8 +2,11 @@
 
 ghost use Rattle.std.specs.Prelude.{◌≡◌, ◌++◌, IfOk, string_bytes};
 ghost use Rattle.plane_model.specs.Reading.{column_name as name_of_column};
-ghost use Rattle.topo_cli.specs.Text.{missing_line, refused_line, refusal_text, shown_number, table_name as name_of_table};
+ghost use Rattle.topo_cli.specs.Tables.{Ending};
+ghost use Rattle.topo_cli.specs.Text.{status_line, file_fault_text, refusal_text, seq_text, shown_number, table_name as name_of_table};
 
+use code_laws::SeqFault;
+use pemb_file::FileFault;
 use std::alloc::{AllocError, Global};
 use topo_base::{Column, Refusal, Table};
 
@@ -36,6 +39,14 @@ fn column_name(column: Column) -> &'static str
         Column::RegionId => "region_id",
         Column::Parent => "parent",
     }
+}
+
+/// A text and one more number field of 128 bits.
+fn with_long_number(mut text: String, name: &str, number: u128) -> Result<String, AllocError>
+    ensures { IfOk result (λ whole. string_bytes whole ≡ string_bytes text ++ shown_number name.now number) }
+{
+    write!(text, " {name}={number}")?;
+    Ok(text)
 }
 
 /// A text and one more number field.
@@ -132,15 +143,74 @@ fn refusal_text(alloc: Global, why: Refusal) -> Result<String, AllocError>
 
 /// The line that says that a needed file is not held.
 pub fn missing_text(alloc: Global, name: &str) -> Result<String, AllocError>
-    ensures { IfOk result (λ text. string_bytes text ≡ missing_line name.now) }
+    ensures { IfOk result (λ text. string_bytes text ≡ status_line (Ending.Missing name.now)) }
 {
     format!(in alloc; "missing {name}\n")
 }
 
 /// The line that says why tables are refused.
 pub fn refused_text(alloc: Global, why: Refusal) -> Result<String, AllocError>
-    ensures { IfOk result (λ text. string_bytes text ≡ refused_line why) }
+    ensures { IfOk result (λ text. string_bytes text ≡ status_line (Ending.Refused why)) }
 {
     let refusal = refusal_text(alloc, why)?;
     format!(in alloc; "refused {refusal}\n")
+}
+
+/// What stands of a fault of the sequences behind its number.
+fn seq_fault_text(alloc: Global, why: SeqFault) -> Result<String, AllocError>
+    ensures { IfOk result (λ text. string_bytes text ≡ seq_text why) }
+{
+    match why {
+        SeqFault::Starts { index } => format!(in alloc; " starts index={index}"),
+        SeqFault::Ones { found } => format!(in alloc; " ones found={found}"),
+        SeqFault::Tree { component } => format!(in alloc; " tree component={component}"),
+        SeqFault::Dual { component } => format!(in alloc; " dual component={component}"),
+    }
+}
+
+/// The number of a fault of a file, and its fields.
+fn file_fault_text(alloc: Global, why: FileFault) -> Result<String, AllocError>
+    ensures { IfOk result (λ text. string_bytes text ≡ file_fault_text why) }
+{
+    match why {
+        FileFault::NotWords { bytes } => format!(in alloc; "G1 bytes={bytes}"),
+        FileFault::NotPemb { words } => format!(in alloc; "G2 words={words}"),
+        FileFault::UnknownForm { form } => format!(in alloc; "G3 form={form}"),
+        FileFault::Length { want, have } => {
+            let text = String::from_str(alloc, "G4")?;
+            let text = with_long_number(text, "want", want)?;
+            with_number(text, "have", have)
+        }
+        FileFault::Digest { at } => format!(in alloc; "G5 at={at}"),
+        FileFault::Count { word, found } => format!(in alloc; "G6 word={word} found={found}"),
+        FileFault::Sequence(why) => {
+            let fault = seq_fault_text(alloc, why)?;
+            format!(in alloc; "G7{fault}")
+        }
+        FileFault::Directory {
+            section,
+            at,
+            want,
+            found,
+        } => {
+            let text = format!(in alloc; "G8 section={section} at={at}")?;
+            let text = with_number(text, "want", want)?;
+            with_number(text, "found", found)
+        }
+        FileFault::Name { section, at } => format!(in alloc; "G9 section={section} at={at}"),
+        FileFault::Place { section, at } => format!(in alloc; "G10 section={section} at={at}"),
+        FileFault::Start { component } => format!(in alloc; "G11 component={component}"),
+        FileFault::RegionPart { section, at } => {
+            format!(in alloc; "G12 section={section} at={at}")
+        }
+        FileFault::Padding { word } => format!(in alloc; "G13 word={word}"),
+    }
+}
+
+/// The line that tells why a file is refused.
+pub fn unlawful_text(alloc: Global, why: FileFault) -> Result<String, AllocError>
+    ensures { IfOk result (λ text. string_bytes text ≡ status_line (Ending.Unlawful why)) }
+{
+    let fault = file_fault_text(alloc, why)?;
+    format!(in alloc; "refused {fault}\n")
 }

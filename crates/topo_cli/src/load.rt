@@ -1,4 +1,4 @@
-//! Loading the tables of a folder.
+//! Loading the tables of a folder, or a built file.
 
 ghost use Rattle.std.specs.Prelude.{◌≡◌, ◌≤◌, ◌++◌, [], IfOk, IfErr, IfSome, IsTrue, Ok, codes, length, string_bytes, true, ◌&&◌};
 ghost use Rattle.std.specs.List.{list_all};
@@ -7,7 +7,7 @@ ghost use Rattle.plane_model.specs.InRange.{is_edge_in_range, is_face_id, is_id,
 ghost use Rattle.plane_model.specs.Reading.{edge_rows, face_rows, node_rows};
 ghost use Rattle.plane_model.specs.Rows.{rows_of};
 ghost use Rattle.topo_cli.specs.Files.{IsWhole};
-ghost use Rattle.topo_cli.specs.Loading.{Ends, Serves, IsShown, IsStopped, NamesNeeded, NamesOnly};
+ghost use Rattle.topo_cli.specs.Loading.{Builds, Ends, Serves, IsShown, IsStopped, NamesNeeded, NamesOnly};
 ghost use Rattle.topo_cli.specs.Limits.{most_bytes};
 ghost use Rattle.topo_cli.specs.Tables.{loaded, served, table};
 ghost use Rattle.topo_cli.specs.Words.{edge_table, face_table, node_table};
@@ -15,6 +15,7 @@ ghost use Rattle.topo_cli.specs.Words.{edge_table, face_table, node_table};
 use crate::explicit::placed::PlacedMap;
 use crate::files::{FileFault, read_file};
 use crate::map_check::check_map;
+use map_build::{BuildFault, build};
 use plane_model::{EdgeRow, FaceRow, NodeRow, Tables};
 use ports::Shelf;
 use rotation_check::CheckFault;
@@ -22,17 +23,19 @@ use std::alloc::{AllocError, Global};
 use topo_base::Refusal;
 use topo_csv::{CsvFault, read_edges, read_faces, read_nodes};
 
-/// Why the tables of a folder can't be loaded.
+/// Why tables or a file can't be loaded.
 #[derive(Debug, Drop)]
 pub enum LoadFault {
     /// No file is held under this name.
     Missing(String),
     /// A read failed.
     ReadFault,
-    /// A table has more bytes than the limit.
+    /// A table or the file has more bytes than the limit.
     TooLong,
     /// What is first wrong with the tables.
     Refused(Refusal),
+    /// What is first wrong with the file.
+    Unlawful(pemb_file::FileFault),
     /// An allocation failed.
     Memory,
 }
@@ -74,8 +77,25 @@ impl From<CheckFault> for LoadFault {
     }
 }
 
-/// The bytes of a needed table.
-fn held_bytes<H: Shelf>(alloc: Global, shelf: &mut H, name: String) -> Result<Vec<u8>, LoadFault>
+impl From<BuildFault> for LoadFault {
+    ghost use Rattle.topo_cli.specs.Loading.{IsSameBuild};
+
+    ghost from_gives = { IsSameBuild };
+
+    fn from(fault: BuildFault) -> LoadFault {
+        match fault {
+            BuildFault::Refused(why) => LoadFault::Refused(why),
+            BuildFault::Memory => LoadFault::Memory,
+        }
+    }
+}
+
+/// The bytes of a table or a file.
+pub fn held_bytes<H: Shelf>(
+    alloc: Global,
+    shelf: &mut H,
+    name: String,
+) -> Result<Vec<u8>, LoadFault>
     ensures whole { IfOk result (λ bytes. IsWhole (H.files shelf.old) (string_bytes name) bytes.items) }
     ensures short { IfOk result (λ bytes. length bytes.items ≤ most_bytes) }
     ensures named { IfErr result (NamesOnly (string_bytes name)) }
@@ -84,6 +104,7 @@ fn held_bytes<H: Shelf>(alloc: Global, shelf: &mut H, name: String) -> Result<Ve
     ensures kept { H.files shelf.new ≡ H.files shelf.old }
     ensures never_falls { H.faults shelf.old ≤ H.faults shelf.new }
     ensures misses_never_fall { H.misses shelf.old ≤ H.misses shelf.new }
+    ensures no_write_fault { H.write_faults shelf.new ≡ H.write_faults shelf.old }
 {
     match read_file(alloc, shelf, name.as_str()) {
         Ok(bytes) => Ok(bytes),
@@ -105,6 +126,7 @@ fn load_nodes<H: Shelf>(alloc: Global, shelf: &mut H, dir: &str) -> Result<Vec<N
     ensures kept { H.files shelf.new ≡ H.files shelf.old }
     ensures never_falls { H.faults shelf.old ≤ H.faults shelf.new }
     ensures misses_never_fall { H.misses shelf.old ≤ H.misses shelf.new }
+    ensures no_write_fault { H.write_faults shelf.new ≡ H.write_faults shelf.old }
 {
     let name = format!(in alloc; "{dir}/node.csv")?;
     let bytes = held_bytes(alloc, shelf, name)?;
@@ -122,6 +144,7 @@ fn load_edges<H: Shelf>(alloc: Global, shelf: &mut H, dir: &str) -> Result<Vec<E
     ensures kept { H.files shelf.new ≡ H.files shelf.old }
     ensures never_falls { H.faults shelf.old ≤ H.faults shelf.new }
     ensures misses_never_fall { H.misses shelf.old ≤ H.misses shelf.new }
+    ensures no_write_fault { H.write_faults shelf.new ≡ H.write_faults shelf.old }
 {
     let name = format!(in alloc; "{dir}/edge.csv")?;
     let bytes = held_bytes(alloc, shelf, name)?;
@@ -139,6 +162,7 @@ fn load_faces<H: Shelf>(alloc: Global, shelf: &mut H, dir: &str) -> Result<Vec<F
     ensures kept { H.files shelf.new ≡ H.files shelf.old }
     ensures never_falls { H.faults shelf.old ≤ H.faults shelf.new }
     ensures misses_never_fall { H.misses shelf.old ≤ H.misses shelf.new }
+    ensures no_write_fault { H.write_faults shelf.new ≡ H.write_faults shelf.old }
 {
     let name = format!(in alloc; "{dir}/face.csv")?;
     let bytes = held_bytes(alloc, shelf, name)?;
@@ -157,6 +181,7 @@ pub fn load_tables<H: Shelf>(alloc: Global, shelf: &mut H, dir: &str) -> Result<
     ensures kept { H.files shelf.new ≡ H.files shelf.old }
     ensures never_falls { H.faults shelf.old ≤ H.faults shelf.new }
     ensures misses_never_fall { H.misses shelf.old ≤ H.misses shelf.new }
+    ensures no_write_fault { H.write_faults shelf.new ≡ H.write_faults shelf.old }
 {
     let nodes = load_nodes(alloc, shelf, dir)?;
     let edges = load_edges(alloc, shelf, dir)?;
@@ -179,7 +204,23 @@ pub fn load_map<H: Shelf>(alloc: Global, shelf: &mut H, dir: &str) -> Result<Pla
     ensures kept { H.files shelf.new ≡ H.files shelf.old }
     ensures never_falls { H.faults shelf.old ≤ H.faults shelf.new }
     ensures misses_never_fall { H.misses shelf.old ≤ H.misses shelf.new }
+    ensures no_write_fault { H.write_faults shelf.new ≡ H.write_faults shelf.old }
 {
     let tables = load_tables(alloc, shelf, dir)?;
     Ok(check_map(alloc, &tables)?)
+}
+
+/// The image of a folder's tables that are consistent.
+pub fn load_image<H: Shelf>(alloc: Global, shelf: &mut H, dir: &str) -> Result<Vec<u8>, LoadFault>
+    ensures built { IfOk result (λ image. IfSome (H.files shelf.old) (λ files. Builds image.items (served files dir.now))) }
+    ensures ends { IfErr result (Ends (H.files shelf.old) (λ files. served files dir.now)) }
+    ensures named { IfErr result (NamesNeeded dir.now) }
+    ensures shown { IfErr result (λ e. IsShown e (H.misses shelf.old) (H.misses shelf.new) (H.faults shelf.old) (H.faults shelf.new)) }
+    ensures kept { H.files shelf.new ≡ H.files shelf.old }
+    ensures never_falls { H.faults shelf.old ≤ H.faults shelf.new }
+    ensures misses_never_fall { H.misses shelf.old ≤ H.misses shelf.new }
+    ensures no_write_fault { H.write_faults shelf.new ≡ H.write_faults shelf.old }
+{
+    let tables = load_tables(alloc, shelf, dir)?;
+    Ok(build(alloc, &tables)?)
 }

@@ -1,15 +1,23 @@
-//! Answers questions on a map from its PostGIS Topology tables: `tackcherry ask DIR < SCRIPT`.
+//! Answers questions on a map from its PostGIS Topology tables, `tackcherry ask DIR < SCRIPT`; puts the map into a file,
+//! `tackcherry build DIR FILE`; and tells whether a file is lawful, `tackcherry check FILE`.
 #![tactic(auto)]
 
-ghost use Rattle.std.specs.Prelude.{◌≡◌, ◌<◌, map, string_bytes};
-ghost use Rattle.topo_cli.specs.Serving.{EndsOverSystem};
+ghost use Rattle.std.specs.Prelude.{◌≡◌, ◌<◌, IfOk, drop, map, string_bytes};
+ghost use Rattle.std.specs.Process.{exit_status};
+ghost use Rattle.std.specs.Vec.Iter.{into_iter_items};
+ghost use Rattle.topo_cli.specs.Call.{call_of, shelf_call, sink_call, source_call};
+ghost use Rattle.topo_cli.specs.Exit.{exit_status as number_of_status};
+ghost use Rattle.topo_cli.specs.Outcome.{IsPromised};
+ghost use Rattle.topo_cli.specs.Words.{form};
 
 pub mod answer;
+pub mod command;
 pub mod explicit;
 pub mod files;
 pub mod lines;
 pub mod load;
 pub mod map_check;
+pub mod opened;
 pub mod script;
 pub mod status;
 #[cfg(test)]
@@ -17,12 +25,11 @@ mod tests;
 pub mod top;
 
 use bit_words::Steps;
-use ports::{FileShelf, StdSink, StdSource};
+use ports::{FileShelf, Shelf, Sink, Source, StdSink, StdSource};
 pub use status::Status;
 use std::alloc::{AllocError, AllocFailed, Global};
 use std::env;
-use std::fs::Files;
-use std::io::{Error, ErrorKind, Read, Write};
+use std::io::{Error, ErrorKind};
 use std::marker::Brand;
 use std::process::ExitCode;
 use std::rt::Env;
@@ -63,46 +70,69 @@ impl From<AllocError> for WordsFault {
     }
 }
 
-/// The words behind the program's name.
-fn collect_words<R: Env + AllocGlobal>(rt: &R) -> Result<Vec<String>, WordsFault> {
-    let mut words = env::args(rt)?;
-    let _name = words.next();
-    Ok(words.collect(rt.alloc())?)
+/// All words that are left.
+fn rest_of(alloc: Global, args: env::Args) -> Result<Vec<String>, AllocError>
+    ensures { IfOk result (λ words. words.items ≡ into_iter_items args) }
+{
+    args.collect(alloc)
 }
 
-/// Runs the program over the files, the input and the output of the system, and ends as `run`; nobody reads the count of steps.
-fn serve<R: Files, I: Read + Drop, O: Write + Drop, L: Ledger>(
+/// The words behind the program's name.
+fn words_behind_name(alloc: Global, mut args: env::Args) -> Result<Vec<String>, AllocError>
+    ensures { IfOk result (λ words. words.items ≡ drop 1 (into_iter_items args)) }
+{
+    let _name = args.next();
+    rest_of(alloc, args)
+}
+
+fn collect_words<R: Env + AllocGlobal>(rt: &R) -> Result<Vec<String>, WordsFault> {
+    Ok(words_behind_name(rt.alloc(), env::args(rt)?)?)
+}
+
+/// What the program ends with.
+fn exit_code(status: Status) -> ExitCode
+    ensures { exit_status result ≡ number_of_status status }
+{
+    ExitCode::from(status.exit_status())
+}
+
+/// Runs the program, and forgets its count of steps.
+fn run_uncounted<H: Shelf, S: Source, K: Sink, L: Ledger>(
     alloc: Global,
-    files: &R,
-    input: I,
-    output: O,
     words: &[String],
+    shelf: &mut H,
+    script: &mut S,
+    out: &mut K,
     blank: Blank,
 ) -> Status
     requires name { blank.name ≡ L.name }
     requires parts { blank.parts ≡ L.parts }
     requires some { 0 < blank.parts }
-    ensures { EndsOverSystem (map string_bytes words.now) result }
+    ensures { IsPromised (call_of (form (map string_bytes words.now)) (shelf_call H.files H.misses H.faults H.write_faults shelf.old shelf.new)
+        (source_call S.left S.faults script.old script.new) (sink_call K.held K.faults out.old out.new)) result }
 {
-    let mut shelf = FileShelf::new(files);
-    let mut script = StdSource::new(input);
-    let mut out = StdSink::new(output);
-    let mut steps = Steps::<L>::new(blank);
-    run(alloc, words, &mut shelf, &mut script, &mut out, &mut steps)
+    let mut steps = Steps::<L>::new(alloc, blank);
+    run(alloc, words, shelf, script, out, &mut steps)
 }
 
+/// Runs the program over the files, the input and the output of the system.
 fn main(rt: HostRuntime) -> ExitCode {
-    let status = match collect_words(&rt) {
-        Ok(words) => serve::<_, _, _, Brand>(
-            rt.alloc(),
-            &rt,
-            rt.stdin(),
-            rt.stdout(),
-            &words,
-            Blank::new(1),
-        ),
-        Err(WordsFault::Memory) => Status::Memory,
-        Err(WordsFault::Unreadable) => Status::Usage,
+    let words = match collect_words(&rt) {
+        Ok(words) => words,
+        Err(WordsFault::Memory) => return exit_code(Status::Memory),
+        Err(WordsFault::Unreadable) => return exit_code(Status::Usage),
     };
-    ExitCode::from(status.exit_status())
+    let mut shelf = FileShelf::new(&rt);
+    let mut script = StdSource::new(rt.stdin());
+    let mut out = StdSink::new(rt.stdout());
+    let blank = Blank::new(1);
+    let status = run_uncounted::<_, _, _, Brand>(
+        rt.alloc(),
+        &words,
+        &mut shelf,
+        &mut script,
+        &mut out,
+        blank,
+    );
+    exit_code(status)
 }

@@ -394,7 +394,7 @@ fn first_wrong<L: Ledger>(alloc: Global, blank: Blank) -> Result<Option<&'static
     requires parts { blank.parts ≡ L.parts }
     requires some { 0 < blank.parts }
 {
-    let mut steps = Steps::<L>::new(blank);
+    let mut steps = Steps::<L>::new(alloc, blank);
     for case in &CASES {
         if !ends_well(alloc, case, &mut steps)? {
             return Ok(Some(case.shows));
@@ -425,7 +425,7 @@ fn ends_failing<L: Ledger>(
     let mut shelf = shelf_of(alloc, &TRIANGLE, shelf)?;
     let mut script = MemorySource::new(b"ring 1\nring 2\n", 7, script);
     let mut out = MemorySink::new(alloc, out);
-    let mut steps = Steps::<L>::new(blank);
+    let mut steps = Steps::<L>::new(alloc, blank);
     let status = ask(alloc, "maps", &mut shelf, &mut script, &mut out, &mut steps)?;
     Ok((status, out.bytes().len()))
 }
@@ -453,7 +453,7 @@ fn answers_from_files<L: Ledger>(rt: &HostRuntime, blank: Blank) -> Result<(Stat
     let mut shelf = FileShelf::new(rt);
     let mut script = StdSource::new(b"ring 1\nring -2\nring 9\nface 1\n".as_slice());
     let mut out = StdSink::new(Vec::new(rt.alloc()));
-    let mut steps = Steps::<L>::new(blank);
+    let mut steps = Steps::<L>::new(rt.alloc(), blank);
     let status = ask(
         rt.alloc(),
         FOLDER,
@@ -477,5 +477,466 @@ fn files_of_the_system_are_answered(rt: HostRuntime) -> Result<(), Fail> {
     assert_eq!(rt; status, Status::Done);
     let wanted = b"ring 1: 1 2 3\nring -2: -2 -1 -3\nring 9: unknown\nbad\n";
     assert_eq!(rt; out.as_slice(), wanted.as_slice());
+    Ok(())
+}
+
+/// The words of the triangle's image.
+const TRIANGLE_IMAGE: [u64; 35] = [
+    0x4f504f54424d4550,
+    0,
+    0x98123f2d89e12b54,
+    0x24707ab9fff0f346,
+    0xa1690037f568805d,
+    0xbcaa430544eb8301,
+    3,
+    2,
+    1,
+    0,
+    0,
+    27,
+    4 << 32,
+    3,
+    2 << 32,
+    0,
+    1,
+    1 << 32,
+    0,
+    6 << 32,
+    0,
+    2 + (1 << 32),
+    3,
+    1,
+    2,
+    1 + (3 << 32),
+    2,
+    2 << 32,
+    1,
+    1,
+    0,
+    0,
+    0,
+    0,
+    0,
+];
+
+/// The bytes of these words, the lowest byte of each first.
+fn bytes_of(alloc: Global, words: &[u64]) -> Result<Vec<u8>, Fail> {
+    let mut bytes = Vec::new(alloc);
+    for word in words {
+        bytes.extend_from_slice(&word.to_le_bytes())?;
+    }
+    Ok(bytes)
+}
+
+fn strings(alloc: Global, words: &[&str]) -> Result<Vec<String>, AllocError> {
+    let mut strings = Vec::new(alloc);
+    for word in words {
+        strings.push(String::from_str(alloc, word)?)?;
+    }
+    Ok(strings)
+}
+
+/// A run of these words over a script that can't be read.
+fn run_words<H: Shelf, K: Sink, L: Ledger>(
+    alloc: Global,
+    words: &[&str],
+    shelf: &mut H,
+    out: &mut K,
+    steps: &mut Steps<L>,
+) -> Result<Status, AllocError> {
+    let words = strings(alloc, words)?;
+    let mut script = MemorySource::new(b"ring 1\n", 7, &[1]);
+    Ok(run(alloc, &words, shelf, &mut script, out, steps))
+}
+
+/// The calls that fail while the triangle is built, and how that has to end: `held` is how many bytes of the image
+/// stand in the file, which may be missing.
+#[derive(Clone, Copy)]
+struct BuildCase {
+    shows: &'static str,
+    shelf: &'static [u64],
+    sink: &'static [u64],
+    status: Status,
+    out: &'static str,
+    held: Option<usize>,
+}
+
+const BUILDS: [BuildCase; 11] = [
+    BuildCase {
+        shows: "a build",
+        shelf: &[],
+        sink: &[],
+        status: Status::Done,
+        out: "built 3 3 1 1 0\n",
+        held: Some(280),
+    },
+    BuildCase {
+        shows: "a build whose line is written in part",
+        shelf: &[],
+        sink: &[1],
+        status: Status::WriteFault,
+        out: "built 3 ",
+        held: Some(280),
+    },
+    BuildCase {
+        shows: "a failing first read of the node table",
+        shelf: &[1],
+        sink: &[],
+        status: Status::ReadFault,
+        out: "",
+        held: None,
+    },
+    BuildCase {
+        shows: "a failing second read of the node table",
+        shelf: &[2],
+        sink: &[],
+        status: Status::ReadFault,
+        out: "",
+        held: None,
+    },
+    BuildCase {
+        shows: "a failing first read of the edge table",
+        shelf: &[3],
+        sink: &[],
+        status: Status::ReadFault,
+        out: "",
+        held: None,
+    },
+    BuildCase {
+        shows: "a failing second read of the edge table",
+        shelf: &[4],
+        sink: &[],
+        status: Status::ReadFault,
+        out: "",
+        held: None,
+    },
+    BuildCase {
+        shows: "a failing first read of the face table",
+        shelf: &[5],
+        sink: &[],
+        status: Status::ReadFault,
+        out: "",
+        held: None,
+    },
+    BuildCase {
+        shows: "a failing second read of the face table",
+        shelf: &[6],
+        sink: &[],
+        status: Status::ReadFault,
+        out: "",
+        held: None,
+    },
+    BuildCase {
+        shows: "a failing start of the file",
+        shelf: &[7],
+        sink: &[],
+        status: Status::WriteFault,
+        out: "",
+        held: None,
+    },
+    BuildCase {
+        shows: "an image that is written in part",
+        shelf: &[8],
+        sink: &[],
+        status: Status::WriteFault,
+        out: "",
+        held: Some(140),
+    },
+    BuildCase {
+        shows: "a call that is not made",
+        shelf: &[9],
+        sink: &[],
+        status: Status::Done,
+        out: "built 3 3 1 1 0\n",
+        held: Some(280),
+    },
+];
+
+/// Whether a file is missing, or holds so many bytes of the triangle's image.
+fn holds_front(alloc: Global, file: Option<&[u8]>, count: Option<usize>) -> Result<bool, Fail> {
+    let image = bytes_of(alloc, &TRIANGLE_IMAGE)?;
+    Ok(match (file, count) {
+        (None, None) => true,
+        (Some(bytes), Some(count)) => bytes.len() == count && image.starts_with(bytes),
+        _ => false,
+    })
+}
+
+/// Whether a build of the triangle ends as it has to.
+fn builds_well<L: Ledger>(
+    alloc: Global,
+    case: &BuildCase,
+    steps: &mut Steps<L>,
+) -> Result<bool, Fail> {
+    let mut shelf = shelf_of(alloc, &TRIANGLE, case.shelf)?;
+    let mut out = MemorySink::new(alloc, case.sink);
+    let words = ["build", "maps", "map.pemb"];
+    let status = run_words(alloc, &words, &mut shelf, &mut out, steps)?;
+    let held = holds_front(alloc, shelf.file("map.pemb"), case.held)?;
+    Ok(held && status == case.status && out.bytes() == case.out.as_bytes())
+}
+
+/// What the first build shows that doesn't end as it has to.
+fn first_wrong_build<L: Ledger>(alloc: Global, blank: Blank) -> Result<Option<&'static str>, Fail>
+    requires name { blank.name ≡ L.name }
+    requires parts { blank.parts ≡ L.parts }
+    requires some { 0 < blank.parts }
+{
+    let mut steps = Steps::<L>::new(alloc, blank);
+    for case in &BUILDS {
+        if !builds_well(alloc, case, &mut steps)? {
+            return Ok(Some(case.shows));
+        }
+    }
+    Ok(None)
+}
+
+#[test]
+fn builds_end_as_they_have_to(rt: HostRuntime) -> Result<(), Fail> {
+    let wrong = first_wrong_build::<Brand>(rt.alloc(), Blank::new(1))?;
+    assert_eq!(rt; wrong, None);
+    Ok(())
+}
+
+/// The triangle's image with some words changed and its end cut off, and what `check` has to tell of it.
+#[derive(Clone, Copy)]
+struct FileCase {
+    shows: &'static str,
+    changes: &'static [(usize, u64)],
+    bytes: usize,
+    status: Status,
+    out: &'static str,
+}
+
+const FILES: [FileCase; 14] = [
+    FileCase {
+        shows: "the image of the triangle",
+        changes: &[],
+        bytes: 280,
+        status: Status::Done,
+        out: "lawful 3 3 1 1 0\n",
+    },
+    FileCase {
+        shows: "a byte less",
+        changes: &[],
+        bytes: 279,
+        status: Status::FileRefused,
+        out: "refused G1 bytes=279\n",
+    },
+    FileCase {
+        shows: "ten words",
+        changes: &[],
+        bytes: 80,
+        status: Status::FileRefused,
+        out: "refused G2 words=10\n",
+    },
+    FileCase {
+        shows: "eleven words",
+        changes: &[],
+        bytes: 88,
+        status: Status::FileRefused,
+        out: "refused G4 want=35 have=11\n",
+    },
+    FileCase {
+        shows: "all words but the last",
+        changes: &[],
+        bytes: 272,
+        status: Status::FileRefused,
+        out: "refused G4 want=35 have=34\n",
+    },
+    FileCase {
+        shows: "another form",
+        changes: &[(1, 1)],
+        bytes: 280,
+        status: Status::FileRefused,
+        out: "refused G3 form=1\n",
+    },
+    FileCase {
+        shows: "a code with the old digest",
+        changes: &[(13, 6)],
+        bytes: 280,
+        status: Status::FileRefused,
+        out: "refused G5 at=0\n",
+    },
+    FileCase {
+        shows: "a code with one edge fewer in its tree",
+        changes: &[
+            (2, 0xaf5dc80df2f328d6),
+            (3, 0xd263d568eaf296e1),
+            (4, 0xba75be32ce2b7c89),
+            (5, 0xcac544f15c55ced4),
+            (11, 26),
+        ],
+        bytes: 280,
+        status: Status::FileRefused,
+        out: "refused G7 ones found=3\n",
+    },
+    FileCase {
+        shows: "a tree that closes before it opens",
+        changes: &[
+            (2, 0x8efc881701349cdf),
+            (3, 0x25a91351accf4df8),
+            (4, 0x071640063da2cc78),
+            (5, 0xbbd663b4ae398f55),
+            (13, 6),
+        ],
+        bytes: 280,
+        status: Status::FileRefused,
+        out: "refused G7 tree component=0\n",
+    },
+    FileCase {
+        shows: "a wrong count",
+        changes: &[
+            (2, 0x459db504838176db),
+            (3, 0x1faa83e3c56a34b0),
+            (4, 0x046a0bf7a5ed0555),
+            (5, 0x7ae8285c643ba575),
+            (12, 5 << 32),
+        ],
+        bytes: 280,
+        status: Status::FileRefused,
+        out: "refused G8 section=2 at=1 want=4 found=5\n",
+    },
+    FileCase {
+        shows: "an order of nodes that names one twice",
+        changes: &[
+            (2, 0x1eb37a70c6cd947c),
+            (3, 0xa81d0b60f34104ce),
+            (4, 0x46d9267450afc39d),
+            (5, 0x93c2dc7a3473680f),
+            (23, 0),
+        ],
+        bytes: 280,
+        status: Status::FileRefused,
+        out: "refused G9 section=11 at=1\n",
+    },
+    FileCase {
+        shows: "an outer component in a face",
+        changes: &[
+            (2, 0x2c3de022491b489d),
+            (3, 0x88c69c5a92e0e3aa),
+            (4, 0x97a29fba9ef351ae),
+            (5, 0xa059034daf09d7dd),
+            (31, 1),
+        ],
+        bytes: 280,
+        status: Status::FileRefused,
+        out: "refused G10 section=17 at=0\n",
+    },
+    FileCase {
+        shows: "a component that starts at another edge",
+        changes: &[
+            (2, 0xc44344263be83878),
+            (3, 0xde0896d54519d8d6),
+            (4, 0x74e27d1df81bb8a3),
+            (5, 0x7ba6cd70bcfcf07b),
+            (13, 5),
+        ],
+        bytes: 280,
+        status: Status::FileRefused,
+        out: "refused G11 component=0\n",
+    },
+    FileCase {
+        shows: "a bit past the end of the code",
+        changes: &[
+            (2, 0xd9d1d3a23ed11088),
+            (3, 0xbaf829be49d9e90a),
+            (4, 0x982a5c7e35094661),
+            (5, 0x366b237ea16522aa),
+            (11, 91),
+        ],
+        bytes: 280,
+        status: Status::FileRefused,
+        out: "refused G13 word=11\n",
+    },
+];
+
+/// The bytes of a case.
+fn case_bytes(alloc: Global, case: &FileCase) -> Result<Vec<u8>, Fail> {
+    let mut words = TRIANGLE_IMAGE;
+    for &(at, word) in case.changes {
+        if at < words.len() {
+            words[at] = word;
+        }
+    }
+    let mut bytes = bytes_of(alloc, &words)?;
+    bytes.truncate(case.bytes);
+    Ok(bytes)
+}
+
+/// Whether `check` tells of a file what it has to.
+fn checks_well<L: Ledger>(
+    alloc: Global,
+    case: &FileCase,
+    steps: &mut Steps<L>,
+) -> Result<bool, Fail> {
+    let mut shelf = MemoryShelf::new(alloc, &[]);
+    shelf.add("map.pemb", &case_bytes(alloc, case)?)?;
+    let mut out = MemorySink::new(alloc, &[]);
+    let status = run_words(alloc, &["check", "map.pemb"], &mut shelf, &mut out, steps)?;
+    Ok(status == case.status && out.bytes() == case.out.as_bytes())
+}
+
+/// What the first file shows of which `check` tells something else.
+fn first_wrong_check<L: Ledger>(alloc: Global, blank: Blank) -> Result<Option<&'static str>, Fail>
+    requires name { blank.name ≡ L.name }
+    requires parts { blank.parts ≡ L.parts }
+    requires some { 0 < blank.parts }
+{
+    let mut steps = Steps::<L>::new(alloc, blank);
+    for case in &FILES {
+        if !checks_well(alloc, case, &mut steps)? {
+            return Ok(Some(case.shows));
+        }
+    }
+    Ok(None)
+}
+
+#[test]
+fn files_are_checked(rt: HostRuntime) -> Result<(), Fail> {
+    let wrong = first_wrong_check::<Brand>(rt.alloc(), Blank::new(1))?;
+    assert_eq!(rt; wrong, None);
+    Ok(())
+}
+
+const BUILD_FOLDER: &str = "topo_cli_test_build";
+
+const BUILT_FILE: &str = "topo_cli_test_build/map.pemb";
+
+/// The triangle built from a folder of the system into a file of the system, which is then checked.
+fn built_and_checked<L: Ledger>(
+    rt: &HostRuntime,
+    blank: Blank,
+) -> Result<(Status, Status, Vec<u8>), Fail>
+    requires name { blank.name ≡ L.name }
+    requires parts { blank.parts ≡ L.parts }
+    requires some { 0 < blank.parts }
+{
+    let alloc = rt.alloc();
+    let mut shelf = FileShelf::new(rt);
+    let mut out = StdSink::new(Vec::new(alloc));
+    let mut steps = Steps::<L>::new(alloc, blank);
+    let words = ["build", BUILD_FOLDER, BUILT_FILE];
+    let built = run_words(alloc, &words, &mut shelf, &mut out, &mut steps)?;
+    let words = ["check", BUILT_FILE];
+    let checked = run_words(alloc, &words, &mut shelf, &mut out, &mut steps)?;
+    Ok((built, checked, out.into_inner()))
+}
+
+#[test]
+fn files_of_the_system_are_built_and_checked(rt: HostRuntime) -> Result<(), Fail> {
+    let _ = fs::remove_dir_all(&rt, BUILD_FOLDER);
+    fs::create_dir(&rt, BUILD_FOLDER)?;
+    fs::write(&rt, "topo_cli_test_build/node.csv", TRIANGLE.nodes)?;
+    fs::write(&rt, "topo_cli_test_build/edge.csv", TRIANGLE.edges)?;
+    fs::write(&rt, "topo_cli_test_build/face.csv", "face_id\n0\n1\n")?;
+    let (built, checked, out) = built_and_checked::<Brand>(&rt, Blank::new(1))?;
+    let image = fs::read(&rt, BUILT_FILE);
+    fs::remove_dir_all(&rt, BUILD_FOLDER)?;
+    assert_eq!(rt; (built, checked), (Status::Done, Status::Done));
+    let wanted = b"built 3 3 1 1 0\nlawful 3 3 1 1 0\n";
+    assert_eq!(rt; out.as_slice(), wanted.as_slice());
+    let image = image?;
+    assert!(rt; holds_front(rt.alloc(), Some(&image), Some(280))?);
     Ok(())
 }

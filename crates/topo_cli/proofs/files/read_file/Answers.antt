@@ -11,6 +11,7 @@ loop-buffer-preserved g c = record {
   kept = search rules;
   faults = search rules;
   misses = search rules;
+  write_faults = search rules;
   bound = search rules;
   same = search rules;
 }

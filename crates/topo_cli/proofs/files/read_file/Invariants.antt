@@ -9,7 +9,8 @@ invariant-loop-buffer g l =
       kept : g.H.Shelf.files l.shelf ≡ g.H.Shelf.files l.fn.shelf;
       faults : g.H.Shelf.faults l.fn.shelf ≤ g.H.Shelf.faults l.shelf;
       misses : g.H.Shelf.misses l.fn.shelf ≤ g.H.Shelf.misses l.shelf;
-      bound : vec_len l.bytes ≤ 1_073_745_920;
+      write_faults : g.H.Shelf.write_faults l.shelf ≡ g.H.Shelf.write_faults l.fn.shelf;
+      bound : vec_len l.bytes ≤ 1_073_807_360;
       same : vec_len l.bytes ≡ length l.bytes.items;
     }
 
