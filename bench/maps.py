@@ -96,22 +96,40 @@ def size_of(folder):
     return sum(os.path.getsize(os.path.join(folder, name)) for name in os.listdir(folder))
 
 
-def ask(what, folder, script):
-    """Runs `ask` and prints time, peak memory and what came out."""
+def measured(words, script=""):
+    """Runs the built program: seconds, peak memory in bytes, exit status, bytes of output and its first line."""
     if not os.access(PROGRAM, os.X_OK):
         sys.exit("build the program first: ./tackcherry ask examples/triangle < examples/triangle/script.txt")
     with tempfile.TemporaryFile() as given, tempfile.TemporaryFile() as out:
         given.write(script.encode())
         given.seek(0)
         begin = time.perf_counter()
-        child = subprocess.Popen([PROGRAM, "ask", folder], stdin=given, stdout=out)
+        child = subprocess.Popen([PROGRAM, *words], stdin=given, stdout=out)
         _, status, usage = os.wait4(child.pid, 0)
         seconds = time.perf_counter() - begin
         child.returncode = os.waitstatus_to_exitcode(status)
-        answered = out.seek(0, os.SEEK_END)
+        written = out.seek(0, os.SEEK_END)
         out.seek(0)
         first = out.read(60).decode(errors="replace").split("\n")[0]
-    megabytes = usage.ru_maxrss / 1024
-    print(f"{what}: {seconds:.2f} s, peak {megabytes:.0f} MiB, tables {size_of(folder) / 2**20:.0f} MiB, "
-          f"status {child.returncode}, {answered} bytes of answers, first {first!r}", flush=True)
+    return seconds, 1024 * usage.ru_maxrss, child.returncode, written, first
+
+
+def ask(what, folder, script):
+    """Runs `ask` and prints time, peak memory and what came out."""
+    seconds, peak, status, written, first = measured(["ask", folder], script)
+    print(f"{what}: {seconds:.2f} s, peak {peak / 2**20:.0f} MiB, tables {size_of(folder) / 2**20:.0f} MiB, "
+          f"status {status}, {written} bytes of answers, first {first!r}", flush=True)
     return seconds
+
+
+def build(what, folder, edges):
+    """Runs `build` and `check`, and prints time, peak memory and the size of the file."""
+    with tempfile.TemporaryDirectory() as room:
+        file = os.path.join(room, "map.pemb")
+        seconds, peak, status, _, first = measured(["build", folder, file])
+        size = os.path.getsize(file) if os.path.exists(file) else 0
+        print(f"{what}: built in {seconds:.2f} s, peak {peak / 2**20:.0f} MiB ({peak / edges:.0f} bytes an edge), "
+              f"tables {size_of(folder) / 2**20:.1f} MiB, file {size / 2**20:.1f} MiB ({size / edges:.1f} bytes an edge), "
+              f"status {status}, {first!r}", flush=True)
+        seconds, peak, status, _, first = measured(["check", file])
+        print(f"{what}: opened in {seconds:.2f} s, peak {peak / 2**20:.0f} MiB, status {status}, {first!r}", flush=True)
