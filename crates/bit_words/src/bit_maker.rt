@@ -24,8 +24,8 @@ impl Model for BitMaker {
 
 #[tactic(auto, using(crate::proofs::Streams::packed))]
 impl BitMaker {
-    ghost use Rattle.std.specs.Prelude.{◌≡◌, ◌<◌, ◌≤◌, ◌+◌, ◌/◌, ◌^◌, [], ◌∷◌, ◌++◌, length, OnOk, OnErr, slice_index_or, false};
-    ghost use Rattle.bit_words.specs.Bits.{HoldsBits, bits_in};
+    ghost use Rattle.std.specs.Prelude.{ℕ, ◌≡◌, ◌<◌, ◌≤◌, ◌+◌, ◌*◌, ◌/◌, ◌^◌, [], ◌∷◌, ◌++◌, length, OnOk, OnErr, slice_index_or, false};
+    ghost use Rattle.bit_words.specs.Bits.{HoldsBits, bits_in, is_set};
 
     /// No bits yet. Takes no memory.
     pub fn new(alloc: Global) -> BitMaker
@@ -51,6 +51,15 @@ impl BitMaker {
         ensures { result ≡ slice_index_or self.now i false }
     {
         self.bits.field(i) == 1
+    }
+
+    /// Word `j`: the 64 bits from `64 * j` on, with 0 from the end of the list on.
+    #[inline]
+    pub fn chunk(&self, j: usize) -> u64
+        requires { 64 * j < length self.now }
+        ensures { (k : ℕ) → k < 64 → is_set result k ≡ slice_index_or self.now (64 * j + k) false }
+    {
+        self.bits.chunk(j)
     }
 
     /// Puts a bit at the end. Where memory is wanting, the list stays as it was.

@@ -7,21 +7,27 @@
 
 mod bit_maker;
 mod bit_view;
+mod byte;
 mod in_word;
 mod memory;
 mod packed_maker;
 mod packed_view;
 mod steps;
+mod tables;
 mod word_view;
 mod wrong_entry;
 
 pub use bit_maker::BitMaker;
 pub use bit_view::BitView;
-pub use in_word::{first_excess, last_excess, ones_below, place_of_one};
+pub use in_word::{deepest_fall, first_excess, last_excess, ones_below, place_of_one};
 pub use memory::Memory;
 pub use packed_maker::PackedMaker;
 pub use packed_view::PackedView;
 pub use steps::Steps;
+pub use tables::{
+    BYTE_EXCESSES, BYTE_LEASTS, PLACES_IN_BYTES, byte_excesses_are_right, byte_leasts_are_right,
+    places_in_bytes_are_right,
+};
 pub use word_view::WordView;
 pub use wrong_entry::WrongEntry;
 

@@ -68,9 +68,9 @@ fn append(words: &mut Vec<u64>, from: usize, width: u32, value: u64) -> Result<(
 
 #[tactic(auto, using(crate::proofs::Streams::packed))]
 impl PackedMaker {
-    ghost use Rattle.std.specs.Prelude.{◌≡◌, ◌<◌, ◌≤◌, ◌^◌, [], ◌∷◌, ◌++◌, length, OnOk, OnErr, [], ◌∷◌, ◌++◌};
+    ghost use Rattle.std.specs.Prelude.{ℕ, ◌≡◌, ◌==◌, ◌<◌, ◌≤◌, ◌+◌, ◌*◌, ◌^◌, [], ◌∷◌, ◌++◌, length, map, slice_index_or, false, OnOk, OnErr};
     ghost use Rattle.bit_words.specs.Packed.{Packs};
-    ghost use Rattle.bit_words.specs.Bits.{fields_in};
+    ghost use Rattle.bit_words.specs.Bits.{fields_in, is_set};
 
     /// No numbers yet, each to come of `width` bits. Takes no memory.
     pub fn new(alloc: Global, width: u32) -> PackedMaker
@@ -109,6 +109,16 @@ impl PackedMaker {
             low | self.words[from / 64 + 1] << room
         };
         low_bits(value, self.width)
+    }
+
+    /// Word `j`, where the numbers are bits: those from `64 * j` on, with 0 from the end of the list on.
+    #[inline]
+    pub(crate) fn chunk(&self, j: usize) -> u64
+        requires bits { self.now.width ≡ 1 }
+        requires within { 64 * j < length self.now.items }
+        ensures { (k : ℕ) → k < 64 → is_set result k ≡ slice_index_or (map (λ x. x == 1) self.now.items) (64 * j + k) false }
+    {
+        self.words[j]
     }
 
     /// Puts a number at the end. Where memory is wanting, the list stays as it was.

@@ -1,8 +1,10 @@
 ghost use Rattle.std.specs.Prelude.{◌≡◌, ◌<◌};
 
+use crate::byte::{byte_from, excess_of_byte, least_of_byte};
 use crate::{
-    BitMaker, BitView, PackedMaker, PackedView, Steps, WordView, first_excess, last_excess,
-    ones_below, place_of_one,
+    BitMaker, BitView, PackedMaker, PackedView, Steps, WordView, byte_excesses_are_right,
+    byte_leasts_are_right, deepest_fall, first_excess, last_excess, ones_below, place_of_one,
+    places_in_bytes_are_right,
 };
 use std::alloc::Global;
 use std::marker::Brand;
@@ -248,6 +250,7 @@ fn bits_are_put_into_words(rt: HostRuntime) -> Result<(), Fail> {
     assert_eq!(rt; bits.len(), 6);
     assert!(rt; bits.bit(4));
     assert!(rt; !bits.bit(5));
+    assert_eq!(rt; bits.chunk(0), 27);
     assert_eq!(rt; bits.finish().as_slice(), [27].as_slice());
     Ok(())
 }
@@ -301,4 +304,123 @@ fn searches_in_one_word(rt: HostRuntime) {
     assert_eq!(rt; place_of_one(ones, 63), Some(63));
     assert_eq!(rt; place_of_one(0, 0), None);
     assert_eq!(rt; ones_below(ones, 64), 64);
+}
+
+#[test]
+fn a_search_goes_on_over_bytes(rt: HostRuntime) {
+    for (word, from, to, drop, want) in [
+        (1211386980115472, 4, 56, 8, Some(28)),
+        (6745769884264228881, 13, 15, 1, None),
+        (648875180931704664, 27, 30, 8, None),
+        (10379671589084034081, 3, 39, 8, Some(27)),
+        (2607778104304091424, 20, 49, 8, Some(44)),
+        (9225908090836382214, 21, 49, 3, Some(32)),
+        (16592037145037272085, 4, 52, 8, Some(24)),
+        (8124667734148581397, 17, 47, 11, Some(30)),
+        (1085102592571150095, 0, 64, 1, None),
+        (4294967295, 0, 64, 32, None),
+        (4294967295, 0, 64, 1, None),
+    ] {
+        assert!(rt; from <= to && to <= 64 && 0 < drop);
+        assert_eq!(rt;
+            first_excess(word, from, to, drop),
+            want,
+            "first in {word} from {from}"
+        );
+    }
+}
+
+#[test]
+fn a_search_back_goes_on_over_bytes(rt: HostRuntime) {
+    for (word, from, to, drop, want) in [
+        (638277808087314, 36, 57, 5, None),
+        (1176638039272210446, 1, 60, 3, None),
+        (7660868490996640314, 24, 38, 2, Some(28)),
+        (17577530688289088445, 32, 62, 8, Some(48)),
+        (6922373081122085328, 28, 48, 1, Some(39)),
+        (340045398547478816, 12, 44, 5, Some(15)),
+        (13686133757887511935, 16, 43, 2, Some(27)),
+        (13810567497041051006, 18, 56, 2, Some(44)),
+        (18446744069414584320, 0, 64, 32, Some(32)),
+        (4294967295, 0, 64, 1, None),
+        (0, 0, 64, 1, None),
+        (4294967295, 0, 64, 32, None),
+    ] {
+        assert!(rt; from <= to && to <= 64 && 0 < drop);
+        assert_eq!(rt;
+            last_excess(word, from, to, drop),
+            want,
+            "last in {word} to {to}"
+        );
+    }
+}
+
+#[test]
+fn ones_are_counted_and_found_by_bytes(rt: HostRuntime) {
+    for (word, j, want) in [
+        (4685046568121828888, 13, Some(62)),
+        (57704578375746564, 10, None),
+        (17308881516128894982, 17, None),
+        (54043269450173348, 16, None),
+        (18020313329959952, 15, None),
+        (387802193748690944, 14, Some(58)),
+        (9223372036854775808, 0, Some(63)),
+        (9223372036854775808, 1, None),
+        (65280, 7, Some(15)),
+    ] {
+        assert_eq!(rt; place_of_one(word, j), want, "one {j} of {word}");
+    }
+    for (word, i, want) in [
+        (9310729112920829785, 0, 0),
+        (4873052053137657492, 0, 0),
+        (7369680267236366492, 40, 15),
+        (7267623232435040129, 0, 0),
+    ] {
+        assert!(rt; i <= 64);
+        assert_eq!(rt; ones_below(word, i), want, "ones below {i} of {word}");
+    }
+}
+
+#[test]
+fn bytes_sum_and_fall_as_their_bits_do(rt: HostRuntime) {
+    for (byte, excess, least) in [
+        (0, 0, 0),
+        (255, 16, 8),
+        (1, 2, 2),
+        (128, 2, 1),
+        (240, 8, 4),
+        (15, 8, 8),
+        (85, 8, 8),
+        (170, 8, 7),
+    ] {
+        assert_eq!(rt; excess_of_byte(byte), excess, "{byte}");
+        assert_eq!(rt; least_of_byte(byte), least, "{byte}");
+    }
+    assert_eq!(rt; byte_from(72057594037927935, 52), 15);
+    byte_excesses_are_right();
+    byte_leasts_are_right();
+    places_in_bytes_are_right();
+}
+
+#[test]
+fn the_deepest_fall_is_that_of_a_front(rt: HostRuntime) {
+    for (word, count, want) in [
+        (0, 64, 64),
+        (18446744073709551615, 64, 0),
+        (0, 0, 0),
+        (0, 13, 13),
+        (18446744073709551600, 64, 4),
+        (18446744069414584320, 64, 32),
+        (4294967295, 64, 0),
+        (15970126346341786989, 59, 1),
+        (9367700737731084368, 24, 15),
+        (14829343298631886456, 60, 3),
+        (948012280686086225, 12, 5),
+        (5596765429999857094, 18, 2),
+        (9360680423438683429, 5, 1),
+        (18118270698365290187, 50, 4),
+    ] {
+        assert!(rt; count <= 64);
+        assert_eq!(rt; deepest_fall(word, count), want, "{count} bits of {word}");
+    }
 }

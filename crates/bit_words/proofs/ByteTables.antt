@@ -1,0 +1,43 @@
+-- the tables of bytes agree with their definitions by bits, and what a look at one gives
+use Rattle.std.specs.Prelude.{ℤ, pos}
+use Rattle.std.specs.Int.{w8, cast_signed, cast_unsigned}
+use Rattle.std.proofs.Common.{◌≡◌, ℕ, ◌<◌, get_or, refl, ap, ◌∙◌, arith}
+use Rattle.std.proofs.lemmas.Int.{ints}
+use Rattle.bit_words.proofs.ByteLaws.{byte_excess-bounds, byte_least-bounds, small_kept}
+use Rattle.bit_words.specs.Lists.{tabulate}
+use Rattle.bit_words.specs.Bits.{is_set, word_bits, rank, excess}
+use Rattle.bit_words.specs.Bytes.{byte_excess, byte_least, least_front, place_in_byte}
+use Rattle.bit_words.specs.declared.tables.TheConstants.{BYTE_EXCESSES, BYTE_LEASTS, PLACES_IN_BYTES}
+use Rattle.bit_words.proofs.BitLists.{get_or-tabulate}
+
+pub excesses_by_bits : BYTE_EXCESSES ≡ tabulate 256 byte_excess
+unfolding tabulate byte_excess is_set word_bits rank excess
+excesses_by_bits = refl
+
+pub leasts_by_bits : BYTE_LEASTS ≡ tabulate 256 byte_least
+unfolding tabulate byte_least is_set word_bits rank excess least_front
+leasts_by_bits = refl
+
+pub places_by_bits : PLACES_IN_BYTES ≡ tabulate 2048 place_in_byte
+unfolding tabulate place_in_byte is_set word_bits rank
+places_by_bits = refl
+
+pub excess-read : (byte : ℕ) (d : ℤ) → byte < 256 → get_or BYTE_EXCESSES byte d ≡ byte_excess byte
+excess-read byte d h = ap (λ xs. get_or xs byte d) excesses_by_bits ∙ get_or-tabulate 256 byte_excess byte d h
+
+pub least-read : (byte : ℕ) (d : ℤ) → byte < 256 → get_or BYTE_LEASTS byte d ≡ byte_least byte
+least-read byte d h = ap (λ xs. get_or xs byte d) leasts_by_bits ∙ get_or-tabulate 256 byte_least byte d h
+
+pub place-read : (i d : ℕ) → i < 2048 → get_or PLACES_IN_BYTES i d ≡ place_in_byte i
+place-read i d h = ap (λ xs. get_or xs i d) places_by_bits ∙ get_or-tabulate 2048 place_in_byte i d h
+
+-- what code reads there
+pub excess-look : (byte : ℕ) → byte < 256 → cast_signed w8 (cast_unsigned w8 (get_or BYTE_EXCESSES byte (pos 0))) ≡ byte_excess byte
+excess-look byte h =
+    let b = byte_excess-bounds byte in
+    ap (λ z. cast_signed w8 (cast_unsigned w8 z)) (excess-read byte (pos 0) h) ∙ small_kept (byte_excess byte) b.0 b.1
+
+pub least-look : (byte : ℕ) → byte < 256 → cast_signed w8 (cast_unsigned w8 (get_or BYTE_LEASTS byte (pos 0))) ≡ byte_least byte
+least-look byte h =
+    let b = byte_least-bounds byte in
+    ap (λ z. cast_signed w8 (cast_unsigned w8 z)) (least-read byte (pos 0) h) ∙ small_kept (byte_least byte) b.0 (omega (arith, ints, b.1))
