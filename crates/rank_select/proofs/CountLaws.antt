@@ -223,14 +223,4 @@ pub counts_to-all : (bits : List Bool) (n : ℕ) → n ≡ blocks (length bits) 
 unfolding counts_to counts_of
 counts_to-all bits n e = rw e refl
 
--- the ones up to the end of a block, or of the list
-pub rank_block_end : (bits : List Bool) (block to : ℕ) → to ≡ min (length bits) (512 * (block + 1)) → rank true bits to ≡ rank true bits (512 * (block + 1))
-rank_block_end bits block to e =
-    ⊎_elim
-    (λ (h : 512 * (block + 1) < length bits). let a : to ≡ 512 * (block + 1) = omega arith in ap (rank true bits) a)
-    (λ (h : length bits ≤ 512 * (block + 1)). let a : to ≡ length bits = omega arith in ap (rank true bits) a ∙ sym (rank_past true bits (512 * (block + 1)) h))
-    (cases_lt (512 * (block + 1)) (length bits))
-
-pub ruleset makes = (rank-le, rank-zero, counts_to-zero, length-counts_to, counts_to-more, counts_to-all, rank_block_end)
-
-pub ruleset bit_loops = (rank-le, rank_more_yes, rank_more_no, rank-le-rank)
+pub ruleset makes = (rank-le, rank-zero, counts_to-zero, length-counts_to, counts_to-more, counts_to-all)

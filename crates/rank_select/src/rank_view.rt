@@ -1,4 +1,5 @@
-ghost use Rattle.std.specs.Prelude.{◌≡◌, ◌≤◌, length};
+ghost use Rattle.std.specs.Prelude.{◌≡◌, ◌<◌, ◌≤◌, length, true, Some};
+ghost use Rattle.bit_words.specs.Bits.{rank, word_bits, IsSelected};
 ghost use Rattle.bit_words.specs.BitView.{bits_of};
 ghost use Rattle.bit_words.specs.PackedView.{fields_of, width_of};
 ghost use Rattle.rank_select.specs.Counts.{counts_of};
@@ -6,6 +7,18 @@ ghost use Rattle.rank_select.specs.Counts.{counts_of};
 use crate::counts::{count_at, ones_in_words};
 use bit_words::{BitView, PackedView, Steps, ones_below, place_of_one};
 use std::sync::ledger::Ledger;
+
+/// The place of the one that has `j` ones below it, where the word has more than `j` ones.
+#[inline]
+fn place_below(word: u64, j: u32) -> u32
+    requires { j < rank true (word_bits word) 64 }
+    ensures { IsSelected true (word_bits word) j (Some result) }
+{
+    match place_of_one(word, j) {
+        Some(place) => place,
+        None => unreachable!(),
+    }
+}
 
 /// Bits with the count of the ones before each block of 512 bits, so that a count reads at most nine words.
 #[derive(Clone, Copy)]
@@ -155,10 +168,11 @@ impl<'a> RankView<'a> {
         let end = self.bits.len().div_ceil(64).min(8 * block + 8);
         for word in 8 * block..end {
             let chunk = self.kind_chunk(kind, word, steps);
-            if let Some(place) = place_of_one(chunk, left as u32) {
-                return 64 * word + place as usize;
+            let ones = ones_below(chunk, 64) as usize;
+            if left < ones {
+                return 64 * word + place_below(chunk, left as u32) as usize;
             }
-            left -= ones_below(chunk, 64) as usize;
+            left -= ones;
         }
         unreachable!()
     }
