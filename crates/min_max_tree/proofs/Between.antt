@@ -1,23 +1,13 @@
 -- the nodes between two places
 use Rattle.std.specs.Prelude.{pos, ◌+ℤ◌}
-use Rattle.std.proofs.Common.{◌≡◌, ℕ, ◌+◌, ◌-◌, ◌*◌, ◌/◌, ◌%◌, ◌<◌, ◌≤◌, Bool, false, eqb, bit_and, ◌^◌, List, length, get_or, ap, sym, ◌∙◌, arith, subst}
+use Rattle.std.proofs.Common.{◌≡◌, ℕ, ◌+◌, ◌-◌, ◌*◌, ◌/◌, ◌%◌, ◌<◌, ◌≤◌, Bool, List, length, ap, ◌∙◌, arith, subst}
 use Rattle.std.proofs.Math.Nat.{mul-le-mul_left}
-use Rattle.bit_words.specs.Bits.{is_set}
-use Rattle.bit_words.proofs.BitLists.{word_bit, get_or-word_bits}
 use Rattle.min_max_tree.specs.Tree.{span_at, size_at, node_from, node_to, total_of, least_of}
 use Rattle.min_max_tree.specs.Node.{IsRun, joined}
 use Rattle.min_max_tree.specs.declared.node.Node.{Node}
 use Rattle.min_max_tree.proofs.Levels.{span-zero}
 use Rattle.min_max_tree.proofs.Nodes.{span-pos, there-node, left-from}
 use Rattle.min_max_tree.proofs.Runs.{run-joined}
-
--- the test that reads a bit of a word
-pub chunk-bit : (bits : List Bool) (word chunk i : ℕ) → ((k : ℕ) → k < 64 → is_set chunk k ≡ get_or bits (64 * word + k) false) → 64 * word ≤ i → i < 64 * (word + 1) → get_or bits i false ≡ eqb (bit_and (chunk / 2 ^ (i - 64 * word)) 1) 1
-chunk-bit bits word chunk i agree low high =
-    let k = i - 64 * word in
-    let e : 64 * word + k ≡ i = omega arith in
-    let l : k < 64 = omega arith in
-    ap (λ p. get_or bits p false) (sym e) ∙ sym (agree k l) ∙ sym (get_or-word_bits chunk k false l) ∙ sym (word_bit chunk k l)
 
 -- a node's numbers are those of its bits
 pub node-run : (bits : List Bool) (h j : ℕ) (run : Node) → pos run.total ≡ total_of bits h j +ℤ pos 2147483648 → pos run.least ≡ least_of bits h j +ℤ pos 2147483648 → IsRun bits (node_from h j) (node_to (length bits) h j) run

@@ -5,7 +5,7 @@ use Rattle.std.proofs.lemmas.List.{get_or_append_left, get_or-append-add, length
 use Rattle.bit_words.specs.WrongEntry.{IsFirstWrong}
 use Rattle.min_max_tree.specs.Built.{Holds, Built}
 use Rattle.min_max_tree.specs.Tree.{span_at, size_at, start_at, node_from, node_to, node, nodes_of, tree_size}
-use Rattle.min_max_tree.proofs.Runs.{run-bounds, run-none, run-more}
+use Rattle.min_max_tree.proofs.Runs.{run-bounds}
 use Rattle.min_max_tree.specs.Node.{IsRun, joined, AreJoinable, of_word, word_of}
 use Rattle.min_max_tree.specs.Level.{IsLevel}
 use Rattle.min_max_tree.specs.declared.node.Node.{Node}
@@ -15,20 +15,12 @@ use Rattle.min_max_tree.proofs.Levels.{start-up, span-zero}
 use Rattle.min_max_tree.proofs.Sizes.{nodes-length, tree-le}
 use Rattle.min_max_tree.proofs.Nodes.{parent-there, node-at, node-order, left-from, right-to, left-there, only-left, next-from, there-node}
 
--- a run can take one bit more
-pub room-low : (bits : List Bool) (from to : ℕ) (run : Node) → length bits ≤ 2147483647 → from ≤ to → to < length bits → IsRun bits from to run → 1 ≤ run.total
-room-low bits from to run few o w r = omega (arith, (run-bounds bits from to run r o (omega arith)).total_low)
-
-pub room-high : (bits : List Bool) (from to : ℕ) (run : Node) → length bits ≤ 2147483647 → from ≤ to → to < length bits → IsRun bits from to run → run.total < 4294967295
-room-high bits from to run few o w r = omega (arith, (run-bounds bits from to run r o (omega arith)).total_high)
-
+-- the numbers of a run are small
 pub small-total : (bits : List Bool) (from to : ℕ) (run : Node) → length bits ≤ 2147483647 → from ≤ to → to ≤ length bits → IsRun bits from to run → run.total < 4294967296
 small-total bits from to run few o w r = omega (arith, (run-bounds bits from to run r o w).total_high)
 
 pub small-least : (bits : List Bool) (from to : ℕ) (run : Node) → from ≤ to → to ≤ length bits → IsRun bits from to run → run.least < 4294967296
 small-least bits from to run o w r = omega (arith, (run-bounds bits from to run r o w).least_high)
-
-pub ruleset runs = (run-none, run-more)
 
 -- the words of a level's nodes
 module _ (bits : List Bool) (few : length bits ≤ 2147483647) (level : Level) (l : IsLevel (length bits) level) where

@@ -9,3 +9,4 @@ pub mod Runs
 pub mod Builds
 pub mod Backs
 pub mod Between
+pub mod Fronts

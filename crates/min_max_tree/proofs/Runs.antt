@@ -1,16 +1,15 @@
 -- nodes of bits that follow one another, and the words of the tree
 use Rattle.std.specs.Prelude.{ℤ, pos, negsuc, ◌+ℤ◌, ◌-ℤ◌, ◌<ℤ◌, ◌≤ℤ◌}
 use Rattle.std.specs.Int.{w32, cast_unsigned, int_min}
-use Rattle.std.proofs.Common.{◌≡◌, ℕ, suc, ◌+◌, ◌-◌, ◌%◌, ◌<◌, ◌≤◌, Bool, true, false, List, length, get_or, refl, ap, ◌∙◌, arith, subst, add-zero}
+use Rattle.std.proofs.Common.{◌≡◌, ℕ, ◌+◌, ◌-◌, ◌%◌, ◌<◌, ◌≤◌, Bool, List, length, refl, ap, ◌∙◌, arith, subst, add-zero}
 use Rattle.std.proofs.lemmas.Int.{ints, clamps}
 use Rattle.bit_words.specs.Bits.{excess}
-use Rattle.bit_words.proofs.Ranks.{excess_up, excess_down}
 use Rattle.min_max_tree.specs.Tree.{size_at, node_from, node_to, least, total_of, least_of, node}
-use Rattle.min_max_tree.specs.Node.{IsRun, no_bits, with_bit, joined, AreJoinable, of_word, word_of}
+use Rattle.min_max_tree.specs.Node.{IsRun, no_bits, joined, AreJoinable, of_word, word_of}
 use Rattle.min_max_tree.specs.declared.node.Node.{Node}
 use Rattle.min_max_tree.proofs.Falls.{slope, slope-up}
 use Rattle.min_max_tree.proofs.Nodes.{least-le, least-above, small_total, small_least, word-total, word-least}
-use Rattle.min_max_tree.proofs.Combine.{least-suc, least-zero, least-union}
+use Rattle.min_max_tree.proofs.Combine.{least-zero, least-union}
 
 -- what the numbers of a run can be
 pub record RunBounds (span : ℕ) (run : Node) : Type 0 where
@@ -46,39 +45,6 @@ run-none bits from =
       total = omega (arith, ints);
       least = omega (arith, ints, e);
     }
-
-module _ (bits : List Bool) (from to : ℕ) (run : Node) (order : from ≤ to) (within : to < length bits) (few : length bits ≤ 2147483647) (r : IsRun bits from to run) where
-  one-more : least (excess bits) from (to + 1 - from) ≡ int_min (least (excess bits) from (to - from)) (excess bits (to + 1))
-  one-more =
-      let E = excess bits in
-      let a : to + 1 - from ≡ suc (to - from) = omega arith in
-      let b : from + suc (to - from) ≡ to + 1 = omega arith in
-      ap (least E from) a ∙ least-suc E from (to - from) ∙ ap (λ p. int_min (least E from (to - from)) (E p)) b
-
-  least-here : least (excess bits) from (to - from) ≤ℤ excess bits to
-  least-here =
-      let d = to - from in
-      let e : from + d ≡ to = omega arith in
-      subst (λ n. least (excess bits) from d ≤ℤ excess bits n) e (least-le (excess bits) from d d (omega arith))
-
-  pub run-more : (bit : Bool) → get_or bits to false ≡ bit → IsRun bits from (to + 1) (with_bit run bit)
-  run-more true e =
-      let u = excess_up bits to false within e in
-      let m = one-more in
-      let l = least-here in
-      record {
-        total = omega (arith, ints, r.total, u);
-        least = omega (arith, ints, clamps, r.least, u, m, l);
-      }
-  run-more false e =
-      let u = excess_down bits to false within e in
-      let m = one-more in
-      let b = run-bounds bits from to run r order (omega arith) in
-      let c : 1 ≤ run.total = omega (arith, b.total_low) in
-      record {
-        total = omega (arith, ints, r.total, u, c);
-        least = omega (arith, ints, clamps, r.least, r.total, u, m, c);
-      }
 
 -- a run and the one after it
 module _ (bits : List Bool) (from middle to : ℕ) (run next : Node) (before : from ≤ middle) (after : middle ≤ to) (r : IsRun bits from middle run) (s : IsRun bits middle to next) where

@@ -1,5 +1,5 @@
 -- What some bits sum to and the least of their fronts, as code keeps it.
-use Rattle.std.specs.Prelude.{ℕ, ◌≡◌, ◌+◌, ◌-◌, ◌*◌, ◌/◌, ◌%◌, ◌<◌, ◌≤◌, pos, ◌+ℤ◌, ◌-ℤ◌, Bool, true, false, List, min}
+use Rattle.std.specs.Prelude.{ℕ, ◌≡◌, ◌+◌, ◌-◌, ◌*◌, ◌/◌, ◌%◌, ◌<◌, ◌≤◌, pos, ◌+ℤ◌, ◌-ℤ◌, Bool, List, min}
 use Rattle.bit_words.specs.Bits.{excess}
 use Rattle.min_max_tree.specs.Tree.{least}
 use Rattle.min_max_tree.specs.declared.node.Node.{Node}
@@ -12,11 +12,6 @@ pub record IsRun (bits : List Bool) (from to : ℕ) (node : Node) : Type 0 where
 -- no bits
 abbrev pub no_bits : Node
 no_bits = record { total = 2147483648; least = 2147483648 }
-
--- one bit more
-abbrev pub with_bit : Node → Bool → Node
-with_bit node true = record { total = node.total + 1; least = node.least }
-with_bit node false = record { total = node.total - 1; least = min node.least (node.total - 1) }
 
 -- the bits of one node and then those of the next
 abbrev pub joined : Node → Node → Node

@@ -1,4 +1,4 @@
-ghost use Rattle.std.specs.Prelude.{◌≡◌, ◌<◌, ◌≤◌, ◌+◌, ◌*◌, [], ◌∷◌, ◌++◌, length, OnOk, OnErr, IfOk};
+ghost use Rattle.std.specs.Prelude.{◌≡◌, ◌<◌, ◌≤◌, ◌+◌, ◌*◌, [], ◌∷◌, ◌++◌, length, min, OnOk, OnErr, IfOk};
 ghost use Rattle.min_max_tree.specs.Tree.{size_at, start_at, node_from, node_to, nodes_of};
 ghost use Rattle.min_max_tree.specs.Node.{IsRun};
 ghost use Rattle.min_max_tree.specs.Level.{IsLevel};
@@ -6,19 +6,21 @@ ghost use Rattle.min_max_tree.specs.Built.{Holds, Built};
 
 use crate::level::Level;
 use crate::node::Node;
+use crate::scan::run_of_front;
 use bit_words::{BitMaker, Memory};
 use std::alloc::Global;
 
-/// The bits from `from` to before `to`.
-fn run_of(bits: &BitMaker, from: usize, to: usize) -> Node
+/// The bits of block `block`, word by word.
+fn run_of_block(bits: &BitMaker, block: usize) -> Node
     requires few { length bits.now ≤ 2147483647 }
-    requires order { from ≤ to }
-    requires within { to ≤ length bits.now }
-    ensures { IsRun bits.now from to result }
+    requires within { 512 * block < length bits.now }
+    ensures { IsRun bits.now (512 * block) (min (length bits.now) (512 * (block + 1))) result }
 {
+    let len = bits.len();
     let mut run = Node::empty();
-    for i in from..to {
-        run = run.with_bit(bits.bit(i));
+    for word in 8 * block..len.div_ceil(64).min(8 * (block + 1)) {
+        let count = (len - 64 * word).min(64) as u32;
+        run = run.joined(run_of_front(bits.chunk(word), count));
     }
     run
 }
@@ -59,8 +61,7 @@ fn lowest_nodes(alloc: Global, bits: &BitMaker) -> Result<Vec<u64>, Memory>
     let len = bits.len();
     let mut nodes = Vec::new(alloc);
     for block in 0..len.div_ceil(512) {
-        let run = run_of(bits, 512 * block, len.min(512 * (block + 1)));
-        push_word(&mut nodes, run.word())?;
+        push_word(&mut nodes, run_of_block(bits, block).word())?;
     }
     Ok(nodes)
 }

@@ -8,7 +8,7 @@ pub(crate) struct Node {
 
 impl Node {
     ghost use Rattle.std.specs.Prelude.{◌≡◌, ◌<◌, ◌≤◌, ◌+◌, ◌*◌, ◌/◌, ◌%◌};
-    ghost use Rattle.min_max_tree.specs.Node.{no_bits, with_bit, joined, AreJoinable, of_word, word_of};
+    ghost use Rattle.min_max_tree.specs.Node.{no_bits, joined, AreJoinable, of_word, word_of};
 
     /// No bits.
     pub(crate) fn empty() -> Node
@@ -17,25 +17,6 @@ impl Node {
         Node {
             total: 2147483648,
             least: 2147483648,
-        }
-    }
-
-    /// These bits and one more.
-    pub(crate) fn with_bit(self, bit: bool) -> Node
-        requires low { 1 ≤ self.total }
-        requires high { self.total < 4294967295 }
-        ensures { result ≡ with_bit self bit }
-    {
-        if bit {
-            Node {
-                total: self.total + 1,
-                least: self.least,
-            }
-        } else {
-            Node {
-                total: self.total - 1,
-                least: self.least.min(self.total - 1),
-            }
         }
     }
 

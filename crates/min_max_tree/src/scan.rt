@@ -1,12 +1,12 @@
-ghost use Rattle.std.specs.Prelude.{◌≡◌, ◌≤◌, ◌+◌, ◌-◌, ◌*◌, ◌/◌, ◌%◌, true, length};
-ghost use Rattle.bit_words.specs.Bits.{excess, rank};
+ghost use Rattle.std.specs.Prelude.{pos, ◌-ℤ◌, ◌≡◌, ◌≤◌, ◌+◌, ◌-◌, ◌*◌, ◌/◌, ◌%◌, true, length};
+ghost use Rattle.bit_words.specs.Bits.{excess, rank, word_bits, IsNext, IsLast};
 ghost use Rattle.bit_words.specs.BitView.{bits_of};
 ghost use Rattle.min_max_tree.specs.Search.{Scanned};
 ghost use Rattle.min_max_tree.specs.SearchBack.{ScannedBack};
 ghost use Rattle.min_max_tree.specs.Node.{IsRun};
 
 use crate::node::Node;
-use bit_words::{BitView, Steps, first_excess, last_excess, ones_below};
+use bit_words::{BitView, Steps, deepest_fall, first_excess, last_excess, ones_below};
 use std::sync::ledger::Ledger;
 
 /// What a scan for a fall of the excess comes to.
@@ -16,6 +16,36 @@ pub enum Scan {
     Found(usize),
     /// How much the excess at the end of the scan is above that.
     Above(u64),
+}
+
+/// The same as `first_excess`, with no search where the word has too few zeros.
+#[inline]
+fn first_fall(word: u64, from: u32, to: u32, drop: u32) -> Option<u32>
+    requires order { from ≤ to }
+    requires within { to ≤ 64 }
+    requires some { 1 ≤ drop }
+    requires few { drop ≤ 65 }
+    ensures { IsNext (λ p. excess (word_bits word) p ≡ excess (word_bits word) from -ℤ pos drop) from to result }
+{
+    let ones = ones_below(word, to) - ones_below(word, from);
+    if to - from < drop + ones {
+        return None;
+    }
+    first_excess(word, from, to, drop)
+}
+
+/// The same as `last_excess`, with no search where the word has too few ones.
+#[inline]
+fn last_rise(word: u64, from: u32, to: u32, drop: u32) -> Option<u32>
+    requires order { from ≤ to }
+    requires within { to ≤ 64 }
+    requires some { 1 ≤ drop }
+    ensures { IsLast (λ p. excess (word_bits word) p ≡ excess (word_bits word) to -ℤ pos drop) from to result }
+{
+    if ones_below(word, to) - ones_below(word, from) < drop {
+        return None;
+    }
+    last_excess(word, from, to, drop)
 }
 
 /// Looks at the bits of one word, from `from` to before `to`.
@@ -40,7 +70,7 @@ pub(crate) fn scan_word<C: Ledger>(
     let low = (from - 64 * word) as u32;
     let high = (to - 64 * word) as u32;
     let drop = need.min(65) as u32;
-    match first_excess(chunk, low, high, drop) {
+    match first_fall(chunk, low, high, drop) {
         Some(place) => Scan::Found(64 * word + place as usize),
         None => {
             let ones = ones_below(chunk, high) - ones_below(chunk, low);
@@ -102,7 +132,7 @@ pub(crate) fn scan_word_back<C: Ledger>(
     let low = (from - 64 * word) as u32;
     let high = (to - 64 * word) as u32;
     let drop = need.min(65) as u32;
-    match last_excess(chunk, low, high, drop) {
+    match last_rise(chunk, low, high, drop) {
         Some(place) => Scan::Found(64 * word + place as usize),
         None => {
             let ones = ones_below(chunk, high) - ones_below(chunk, low);
@@ -166,6 +196,19 @@ pub(crate) fn ones_between<C: Ledger>(
     ones
 }
 
+/// The first `count` bits of a word.
+pub(crate) fn run_of_front(word: u64, count: u32) -> Node
+    requires { count ≤ 64 }
+    ensures { IsRun (word_bits word) 0 count result }
+{
+    let ones = ones_below(word, count) as u64;
+    let fall = deepest_fall(word, count) as u64;
+    Node {
+        total: 2147483648 + 2 * ones - count as u64,
+        least: 2147483648 - fall,
+    }
+}
+
 /// The bits of one word from `from` to before `to`.
 pub(crate) fn run_of_word<C: Ledger>(
     bits: &BitView<'_>,
@@ -182,11 +225,7 @@ pub(crate) fn run_of_word<C: Ledger>(
 {
     let word = from / 64;
     let chunk = bits.chunk(word, steps);
-    let mut run = Node::empty();
-    for i in from..to {
-        run = run.with_bit(chunk >> (i - 64 * word) & 1 == 1);
-    }
-    run
+    run_of_front(chunk >> (from - 64 * word), (to - from) as u32)
 }
 
 /// The bits from `from` to before `to`, word by word.
