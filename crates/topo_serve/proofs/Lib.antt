@@ -1,0 +1,11 @@
+pub mod Writing
+pub mod Listing
+pub mod Cutting
+pub mod Ending
+pub mod Piecing
+pub mod Streaming
+pub mod Kept
+pub mod Served
+pub mod Answering
+pub mod FiveItems
+pub mod Walked

@@ -1,0 +1,122 @@
+-- Answering the lines that end in a piece, one after the other.
+use Rattle.std.proofs.Common.{◌≡◌, ℕ, ◌+◌, ◌≤◌, List, [], ◌∷◌, ◌++◌, flat_map, length, Result, Ok, Err, refl, sym, ap, ◌∙◌, append_assoc, append-nil, arith}
+use Rattle.std.specs.Prelude.{IsErrAnd}
+use Rattle.plane_model.specs.PlaneMap.{PlaneMap}
+use Rattle.plane_model.specs.Answers.{answer, answer_to, line_walked, items_listed}
+use Rattle.topo_serve.specs.Gathering.{Out, Writes}
+use Rattle.topo_serve.specs.Pieces.{ended_behind, open_behind, last_line, cut}
+use Rattle.topo_serve.proofs.Ending.{last_none, last_one}
+use Rattle.topo_serve.specs.Serving.{over_lines, words_of_line, found_by_reads, found_in}
+use Rattle.navigate.specs.Bound.{most_words}
+use Rattle.topo_base.specs.Script.{line}
+use Rattle.topo_serve.proofs.Cutting.{same_line}
+use Rattle.topo_serve.proofs.Writing.{writes_nothing, writes_more, writes_failed, writes_ok}
+
+-- the lines of a piece behind a front of a line are answered up to where this rest stands behind this front
+pub record IsAnswered (m : PlaneMap) (start piece front rest : List ℕ) (steps_before steps_after : ℕ) (before after : Out) : Type 0 where
+  pub done : List (List ℕ)
+  pub split : ended_behind start piece ≡ done ++ ended_behind front rest
+  pub opens : open_behind start piece ≡ open_behind front rest
+  pub writes : Writes {X = Unit {0}} {E = Unit {0}} (Ok tt) before after (flat_map (answer m) done)
+  pub least : steps_before + over_lines (found_by_reads m) done ≤ steps_after
+  pub most : steps_after ≤ steps_before + over_lines (words_of_line m) done
+
+pub answered_none : (m : PlaneMap) (start piece : List ℕ) (steps : ℕ) (out : Out) → IsAnswered m start piece start piece steps steps out out
+unfolding over_lines
+answered_none m start piece steps out = record {
+  done = [];
+  split = refl;
+  opens = refl;
+  writes = writes_nothing tt out;
+  least = omega arith;
+  most = omega arith;
+}
+
+pub over_more : (f : List ℕ → ℕ) (xs ys : List (List ℕ)) → over_lines f (xs ++ ys) ≡ over_lines f xs + over_lines f ys
+unfolding over_lines
+over_more f [] ys = omega arith
+over_more f (x ∷ xs) ys = omega (arith, over_more f xs ys)
+
+pub answers_more : (m : PlaneMap) (xs ys : List (List ℕ)) → flat_map (answer m) (xs ++ ys) ≡ flat_map (answer m) xs ++ flat_map (answer m) ys
+answers_more m [] ys = refl
+answers_more m (x ∷ xs) ys = ap (λ z. answer m x ++ z) (answers_more m xs ys) ∙ sym (append_assoc (answer m x) (flat_map (answer m) xs) (flat_map (answer m) ys))
+
+over_one : (f : List ℕ → ℕ) (xs : List (List ℕ)) (l : List ℕ) → over_lines f (xs ++ l ∷ []) ≡ over_lines f xs + f l
+unfolding over_lines
+over_one f xs l = over_more f xs (l ∷ []) ∙ omega arith
+
+answers_one : (m : PlaneMap) (xs : List (List ℕ)) (l : List ℕ) → flat_map (answer m) (xs ++ l ∷ []) ≡ flat_map (answer m) xs ++ answer m l
+answers_one m xs l = answers_more m xs (l ∷ []) ∙ ap (λ z. flat_map (answer m) xs ++ z) (append-nil (answer m l))
+
+-- a line of which as much is kept as is looked at
+pub record IsKept (m : PlaneMap) (l kept : List ℕ) : Type 0 where
+  pub answer_same : answer m kept ≡ answer m l
+  pub found_same : found_by_reads m kept ≡ found_by_reads m l
+  pub words_same : words_of_line m kept ≡ words_of_line m l
+
+pub kept_line : (m : PlaneMap) (l kept : List ℕ) → kept ≡ cut l → IsKept m l kept
+kept_line m l kept e = let same : line kept ≡ line l = same_line kept l e in record {
+  answer_same = ap (answer_to m) same;
+  found_same = ap (found_in m) same;
+  words_same = ap (λ x. most_words m (line_walked m x) (items_listed m x)) same;
+}
+
+pub answered_more : {X E : Type 0} (x : X) (m : PlaneMap) (start piece front rest l kept more : List ℕ) (s t u : ℕ) (a b c : Out)
+    → IsAnswered m start piece front rest s t a b → ended_behind front rest ≡ l ∷ ended_behind [] more → open_behind front rest ≡ open_behind [] more
+    → IsKept m l kept → Writes {X = X} {E = E} (Ok x) b c (answer m kept) → t + found_by_reads m kept ≤ u → u ≤ t + words_of_line m kept
+    → IsAnswered m start piece [] more s u a c
+answered_more x m start piece front rest l kept more s t u a b c p e o k w least most = record {
+  done = p.done ++ l ∷ [];
+  split = p.split ∙ ap (λ z. p.done ++ z) e ∙ sym (append_assoc p.done (l ∷ []) (ended_behind [] more));
+  opens = p.opens ∙ o;
+  writes = rw (answers_one m p.done l, ← k.answer_same) (writes_more tt (Ok tt) a b c (flat_map (answer m) p.done) (answer m kept) p.writes (writes_ok x tt b c (answer m kept) w));
+  least = omega (arith, p.least, least, k.found_same, over_one (found_by_reads m) p.done l);
+  most = omega (arith, p.most, most, k.words_same, over_one (words_of_line m) p.done l);
+}
+
+-- where writing the answer to the next line failed
+pub answered_part : {X E Y F : Type 0} (r : Result X E) (P : E → Type 0) (f : F) (m : PlaneMap) (start piece front rest l kept more : List ℕ) (s t : ℕ) (a b c : Out)
+    → IsAnswered m start piece front rest s t a b → ended_behind front rest ≡ l ∷ ended_behind [] more → IsKept m l kept → IsErrAnd r P → Writes {X = Y} {E = F} (Err f) b c (answer m kept)
+    → Writes r a c (flat_map (answer m) (ended_behind start piece))
+answered_part r P f m start piece front rest l kept more s t a b c p e k is w =
+    let all : flat_map (answer m) (ended_behind start piece) ≡ flat_map (answer m) p.done ++ (answer m kept ++ flat_map (answer m) (ended_behind [] more)) =
+    ap (flat_map (answer m)) (p.split ∙ ap (λ z. p.done ++ z) e) ∙ answers_more m p.done (l ∷ ended_behind [] more)
+    ∙ ap (λ z. flat_map (answer m) p.done ++ (z ++ flat_map (answer m) (ended_behind [] more))) (sym k.answer_same) in
+    rw all (writes_more tt r a b c (flat_map (answer m) p.done) (answer m kept ++ flat_map (answer m) (ended_behind [] more)) p.writes
+    (writes_failed r P f b c (answer m kept) (flat_map (answer m) (ended_behind [] more)) is w))
+
+pub paid_part : (m : PlaneMap) (start piece front rest l kept more : List ℕ) (s t u : ℕ) (a b : Out)
+    → IsAnswered m start piece front rest s t a b → ended_behind front rest ≡ l ∷ ended_behind [] more → IsKept m l kept → u ≤ t + words_of_line m kept
+    → u ≤ s + over_lines (words_of_line m) (ended_behind start piece)
+unfolding over_lines
+paid_part m start piece front rest l kept more s t u a b p e k most =
+    omega (arith, p.most, most, k.words_same, ap (over_lines (words_of_line m)) (p.split ∙ ap (λ z. p.done ++ z) e), over_more (words_of_line m) p.done (l ∷ ended_behind [] more))
+
+-- where no line ends in the rest
+pub done_all : (m : PlaneMap) (start piece front rest : List ℕ) (s t : ℕ) (a b : Out) → (p : IsAnswered m start piece front rest s t a b) → ended_behind front rest ≡ [] → ended_behind start piece ≡ p.done
+done_all m start piece front rest s t a b p e = p.split ∙ ap (λ z. p.done ++ z) e ∙ append-nil p.done
+
+pub answered_all : {X E : Type 0} (r : Result X E) (m : PlaneMap) (start piece front rest : List ℕ) (s t : ℕ) (a b c : Out)
+    → IsAnswered m start piece front rest s t a b → ended_behind front rest ≡ [] → Writes r b c [] → Writes r a c (flat_map (answer m) (ended_behind start piece))
+answered_all r m start piece front rest s t a b c p e w =
+    rw (done_all m start piece front rest s t a b p e, ← append-nil (flat_map (answer m) p.done)) (writes_more tt r a b c (flat_map (answer m) p.done) [] p.writes w)
+
+pub least_all : (m : PlaneMap) (start piece front rest : List ℕ) (s t : ℕ) (a b : Out) → IsAnswered m start piece front rest s t a b → ended_behind front rest ≡ []
+    → s + over_lines (found_by_reads m) (ended_behind start piece) ≤ t
+least_all m start piece front rest s t a b p e = rw (done_all m start piece front rest s t a b p e) p.least
+
+pub most_all : (m : PlaneMap) (start piece front rest : List ℕ) (s t : ℕ) (a b : Out) → IsAnswered m start piece front rest s t a b → ended_behind front rest ≡ []
+    → t ≤ s + over_lines (words_of_line m) (ended_behind start piece)
+most_all m start piece front rest s t a b p e = rw (done_all m start piece front rest s t a b p e) p.most
+
+-- the last line, unless it is empty
+pub answers_last : (m : PlaneMap) (l : List ℕ) → (length l ≡ 0 → ⊥) → flat_map (answer m) (last_line l) ≡ answer m l
+answers_last m l some = ap (flat_map (answer m)) (last_one l some) ∙ append-nil (answer m l)
+
+pub over_last : (f : List ℕ → ℕ) (l : List ℕ) → (length l ≡ 0 → ⊥) → over_lines f (last_line l) ≡ f l
+unfolding over_lines
+over_last f l some = ap (over_lines f) (last_one l some) ∙ omega arith
+
+pub over_none : (f : List ℕ → ℕ) (l : List ℕ) → length l ≡ 0 → over_lines f (last_line l) ≡ 0
+unfolding over_lines
+over_none f l none = ap (over_lines f) (last_none l none)

@@ -1,0 +1,37 @@
+//! Answers on their way out: gathered until a buffer is full.
+
+ghost use Rattle.std.specs.Prelude.{◌≡◌, ◌≤◌, [], length, OnOk};
+ghost use Rattle.topo_serve.specs.Gathering.{out_at, Writes};
+
+use arrayvec::ArrayVec;
+use ports::{Failed, Sink};
+
+/// How many bytes of answers are gathered before they are written.
+pub(crate) const GATHERED: usize = 65_536;
+
+/// Bytes that are still to be written.
+pub(crate) type Gathered = ArrayVec<u8, GATHERED>;
+
+/// Writes what was gathered, and forgets it.
+pub(crate) fn put_out<K: Sink>(out: &mut K, text: &mut Gathered) -> Result<(), Failed>
+    ensures writes { Writes result (out_at (K.held out.old) (K.faults out.old) text.old.items) (out_at (K.held out.new) (K.faults out.new) text.new.items) [] }
+    ensures empty { OnOk result (text.new.items ≡ []) }
+{
+    if !text.is_empty() {
+        out.put(text.as_slice())?;
+        text.clear();
+    }
+    Ok(())
+}
+
+/// Gathers some bytes, behind those that are still to be written.
+pub(crate) fn gather<K: Sink>(out: &mut K, text: &mut Gathered, bytes: &[u8]) -> Result<(), Failed>
+    requires { length bytes.now ≤ 64 }
+    ensures { Writes result (out_at (K.held out.old) (K.faults out.old) text.old.items) (out_at (K.held out.new) (K.faults out.new) text.new.items) bytes.now }
+{
+    if text.remaining_capacity() < bytes.len() {
+        put_out(out, text)?;
+    }
+    text.try_extend_from_slice(bytes).unwrap();
+    Ok(())
+}

@@ -1,0 +1,16 @@
+//! Answers a script from a served file, as it arrives, without an allocator.
+#![tactic(auto)]
+
+mod answer;
+mod fault;
+mod gathered;
+mod items;
+mod line;
+mod piece;
+mod serving;
+
+pub use fault::ServeFault;
+pub use serving::serve;
+
+#[cfg(test)]
+mod tests;
