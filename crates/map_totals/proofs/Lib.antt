@@ -1,0 +1,4 @@
+pub mod Ids
+pub mod Few
+pub mod Summing
+pub mod Wholes

@@ -1,0 +1,74 @@
+-- The totals of a file's map by the ids that the file names, and what they may read.
+use Rattle.std.specs.Prelude.{sum_by}
+use Rattle.std.proofs.Common.{◌≡◌, ℕ, ◌+◌, ◌*◌, ◌<◌, ◌≤◌, ◌^◌, true, length, ap, ◌∙◌, arith}
+use Rattle.std.proofs.lemmas.List.Sums.{sum_by-cons}
+use Rattle.plane_model.specs.PlaneMap.{PlaneMap}
+use Rattle.plane_model.specs.Lists.{node_edges, face_edges, adjacent}
+use Rattle.pemb_file.specs.Contents.{Contents}
+use Rattle.pemb_file.specs.Lawful.{is_whole}
+use Rattle.pemb_file.proofs.FiveCounts.{counts_of_map}
+use Rattle.navigate.specs.Bound.{map_with}
+use Rattle.map_totals.specs.Totals.{face_total, node_total, adjacent_total, face_words, node_words, adjacent_words, most_face_words, most_node_words, most_adjacent_words}
+use Rattle.map_totals.proofs.Ids.{nodes_sum, faces_sum}
+use Rattle.map_totals.proofs.Few.{sum-few, faces-few, nodes-few, node-few, face-few, across-few}
+
+-- so many small numbers have a sum that fits
+fits : (n k : ℕ) → n ≤ 16777216 → k ≤ n * 67108864 → k + 67108864 < 2 ^ 63
+fits n k few small = omega (arith, few, small)
+
+module _ (c : Contents) (h : is_whole c ≡ true) where
+  abbrev m : PlaneMap
+  m = map_with c
+
+  pub face_total_is : face_total m ≡ length (face_edges m 0) + sum_by (λ f. length (face_edges m f)) c.faces
+  unfolding face_total
+  face_total_is = sum_by-cons (λ f. length (face_edges m f)) 0 m.faces ∙ ap (λ n. length (face_edges m 0) + n) (faces_sum c h (λ f. length (face_edges m f)))
+
+  pub face_words_are : most_face_words m ≡ face_words m 0 + (sum_by (face_words m) c.faces + 2 * length c.faces)
+  unfolding most_face_words
+  face_words_are =
+      let all = sum_by-cons (face_words m) 0 m.faces in
+      let same = faces_sum c h (face_words m) in
+      let many = (counts_of_map c h).faces in
+      omega (arith, all, same, many)
+
+  pub node_total_is : node_total m ≡ sum_by (λ n. length (node_edges m n)) c.nodes
+  unfolding node_total
+  node_total_is = nodes_sum c (λ n. length (node_edges m n))
+
+  pub node_words_are : most_node_words m ≡ sum_by (node_words m) c.nodes + 2 * length c.nodes
+  unfolding most_node_words
+  node_words_are = let same = nodes_sum c (node_words m) in let many = (counts_of_map c h).nodes in omega (arith, same, many)
+
+  pub adjacent_total_is : adjacent_total m ≡ length (adjacent m 0) + sum_by (λ f. length (adjacent m f)) c.faces
+  unfolding adjacent_total
+  adjacent_total_is = sum_by-cons (λ f. length (adjacent m f)) 0 m.faces ∙ ap (λ n. length (adjacent m 0) + n) (faces_sum c h (λ f. length (adjacent m f)))
+
+  pub adjacent_words_are : most_adjacent_words m ≡ adjacent_words m 0 + (sum_by (adjacent_words m) c.faces + 2 * length c.faces)
+  unfolding most_adjacent_words
+  adjacent_words_are =
+      let all = sum_by-cons (adjacent_words m) 0 m.faces in
+      let same = faces_sum c h (adjacent_words m) in
+      let many = (counts_of_map c h).faces in
+      omega (arith, all, same, many)
+
+  -- none of the totals overflows
+  pub face_total_fits : face_total m < 2 ^ 63
+  face_total_fits =
+      let all = face_total_is in
+      let first = face-few c h 0 in
+      let more = fits (length c.faces) (sum_by (λ f. length (face_edges m f)) c.faces) (faces-few c h) (sum-few (λ f. length (face_edges m f)) 67108864 c.faces (face-few c h)) in
+      omega (arith, all, first, more)
+
+  pub node_total_fits : node_total m < 2 ^ 63
+  node_total_fits =
+      let all = node_total_is in
+      let more = fits (length c.nodes) (sum_by (λ n. length (node_edges m n)) c.nodes) (nodes-few c h) (sum-few (λ n. length (node_edges m n)) 67108864 c.nodes (node-few c h)) in
+      omega (arith, all, more)
+
+  pub adjacent_total_fits : adjacent_total m < 2 ^ 63
+  adjacent_total_fits =
+      let all = adjacent_total_is in
+      let first = across-few c h 0 in
+      let more = fits (length c.faces) (sum_by (λ f. length (adjacent m f)) c.faces) (faces-few c h) (sum-few (λ f. length (adjacent m f)) 67108864 c.faces (across-few c h)) in
+      omega (arith, all, first, more)
