@@ -12,26 +12,22 @@ use Rattle.topo_cli.specs.Tables.{◌>>=◌, Ending, table, read_by, read_or_mis
 use Rattle.topo_cli.specs.Words.{node_table, edge_table, face_table}
 use Rattle.plane_model.specs.Rows.{Rows}
 use Rattle.plane_model.specs.InRange.{is_in_range}
-use Rattle.plane_model.specs.PlaneMap.{map_of}
 use Rattle.plane_model.specs.Consistent.{is_consistent}
 use Rattle.plane_model.specs.Faults.{first_fault}
 use Rattle.plane_model.proofs.AllFaults.{None_from, none-first_fault}
-use Rattle.rotation_check.specs.Checked.{Names}
-use Rattle.rotation_check.specs.declared.checks.CheckFault.{CheckFault}
-use Rattle.rotation_check.specs.declared.checks.CheckFault.TheVariants as check
 use Rattle.plane_model.specs.declared.rows.NodeRow.{NodeRow}
 use Rattle.plane_model.specs.declared.rows.EdgeRow.{EdgeRow}
 use Rattle.plane_model.specs.declared.rows.FaceRow.{FaceRow}
 use Rattle.plane_model.specs.declared.rows.RegionRow.{RegionRow}
 use Rattle.plane_model.specs.declared.rows.MemberRow.{MemberRow}
 use Rattle.plane_model.specs.Reading.{node_rows, edge_rows, face_rows}
-use Rattle.topo_cli.specs.Loading.{Builds, IsEnding, IsSameBuild, IsLineOf, IsUnlawful, Ends, IsStopped, IsSame, IsSameCheck, NamesOnly, Serves}
+use Rattle.topo_cli.specs.Loading.{Builds, IsEnding, IsSameBuild, Ends, IsStopped, IsSame, NamesOnly}
 use Rattle.map_build.specs.BuildFaults.{Names as NamesFault}
 use Rattle.map_build.specs.declared.fault.BuildFault.{BuildFault}
 use Rattle.map_build.specs.declared.fault.BuildFault.TheVariants as build
 use Rattle.topo_cli.specs.Outcome.{IsImageOf}
-use Rattle.topo_cli.specs.Text.{lawful_line}
 use Rattle.pemb_file.specs.Lawful.{first_fault as file_fault, map_of_file}
+use Rattle.pemb_file.specs.declared.fault.FileFault.{FileFault}
 use Rattle.topo_cli.specs.declared.load.LoadFault.{LoadFault}
 use Rattle.topo_cli.specs.declared.load.LoadFault.TheVariants as fault
 
@@ -125,25 +121,20 @@ unfolding loaded
 ends_at_faces None dir nodes edges e n k is = tt
 ends_at_faces (Some files) dir nodes edges e n k is = rw (n, k) (ended e (table face_rows files (face_table dir)) _ is)
 
--- tables that were loaded and checked are served
-pub serves : (files : Option Files) (dir : List ℕ) (t m : Rows)
-    → IfSome files (λ f. loaded f dir ≡ Ok t) → IsTrue (is_in_range t) → IsTrue (is_consistent t) → map_of m ≡ map_of t → IfSome files (λ f. Serves m (served f dir))
+-- consistent tables pass the checks
+pub checked_is : (t : Rows) → IsTrue (is_in_range t) → IsTrue (is_consistent t) → checked t ≡ Ok t
 unfolding checked
-serves None dir t m l r consistent is = tt
-serves (Some files) dir t m l r consistent is =
-    let fine : first_fault t ≡ None = None_from _ _ (none-first_fault t r) consistent in
-    rw (l, fine) (record { consistent = consistent; is = is })
+checked_is t r consistent = let fine : first_fault t ≡ None = None_from _ _ (none-first_fault t r) consistent in rw fine refl
+
+-- the tables of a grid are refused
+pub ends_at_grid : (t : Rows) (why : BuildFault) (e : LoadFault) → NamesFault why (first_fault t) → IsSameBuild why e → IsEnding e (checked t)
+unfolding checked
+ends_at_grid t (build.Refused r) e is same = rw (same, is) refl
+ends_at_grid t build.Memory e is same = rw same tt
 
 pub ends_at_load : (files : Option Files) (dir : List ℕ) (e : LoadFault) → Ends files (λ f. loaded f dir) e → Ends files (λ f. served f dir) e
 ends_at_load None dir e is = tt
 ends_at_load (Some files) dir e is = ended e (loaded files dir) checked is
-
-pub ends_at_check : (files : Option Files) (dir : List ℕ) (t : Rows) (why : CheckFault) (e : LoadFault)
-    → IfSome files (λ f. loaded f dir ≡ Ok t) → Names why (first_fault t) → IsSameCheck why e → Ends files (λ f. served f dir) e
-unfolding checked
-ends_at_check None dir t why e l is same = tt
-ends_at_check (Some files) dir t (check.Refused r) e l is same = rw (same, l, is) refl
-ends_at_check (Some files) dir t check.Memory e l is same = rw same tt
 
 pub ends_at_build : (files : Option Files) (dir : List ℕ) (t : Rows) (why : BuildFault) (e : LoadFault)
     → IfSome files (λ f. loaded f dir ≡ Ok t) → NamesFault why (first_fault t) → IsSameBuild why e → Ends files (λ f. served f dir) e
@@ -154,12 +145,12 @@ ends_at_build (Some files) dir t build.Memory e l is same = rw same tt
 
 -- an image of tables that were loaded
 pub builds : (files : Option Files) (dir : List ℕ) (t : Rows) (image : List ℕ)
-    → IfSome files (λ f. loaded f dir ≡ Ok t) → IsTrue (is_in_range t) → IsTrue (is_consistent t) → IsImageOf t image → IfSome files (λ f. Builds image (served f dir))
-unfolding checked
-builds None dir t image l r consistent is = tt
-builds (Some files) dir t image l r consistent is =
-    let fine : first_fault t ≡ None = None_from _ _ (none-first_fault t r) consistent in
-    rw (l, fine) (consistent, is)
+    → IfSome files (λ f. loaded f dir ≡ Ok t) → IsTrue (is_in_range t) → IsTrue (is_consistent t) → IsImageOf t image → Builds files dir image
+builds files dir t image l r consistent is = record { tables = t; are = are files l; consistent = consistent; is = is }
+  where
+    are : (files : Option Files) → IfSome files (λ f. loaded f dir ≡ Ok t) → IfSome files (λ f. served f dir ≡ Ok t)
+    are None l = tt
+    are (Some files) l = rw l (checked_is t r consistent)
 
 -- what stopped the reading of a file
 stopped_file : (files : Option Files) (name : List ℕ) (e : LoadFault) → IsStopped files name e → NamesOnly name e → Ends files (λ f. opened f name) e
@@ -183,36 +174,20 @@ opened_is : (files : Files) (name bytes : List ℕ) → files name ≡ Some byte
 unfolding opened
 opened_is files name bytes is h = ap (opened_or_missing name) is ∙ rw (le-ltb most_bytes (length bytes) h) refl
 
-file_unlawful : (files : Option Files) (name bytes : List ℕ) (e : LoadFault) → IsWhole files name bytes → length bytes ≤ most_bytes → IsUnlawful bytes e → Ends files (λ f. opened f name) e
-file_unlawful None name bytes e whole h is = tt
-file_unlawful (Some files) name bytes (fault.Missing said) whole h is = absurd is
-file_unlawful (Some files) name bytes fault.ReadFault whole h is = absurd is
-file_unlawful (Some files) name bytes fault.TooLong whole h is = absurd is
-file_unlawful (Some files) name bytes (fault.Refused r) whole h is = absurd is
-file_unlawful (Some files) name bytes (fault.Unlawful g) whole h is = opened_is files name bytes whole h ∙ ap (unless_unlawful bytes) is
-file_unlawful (Some files) name bytes fault.Memory whole h is = tt
+pub file_unlawful : (files : Option Files) (name bytes seen : List ℕ) (e : FileFault) → seen ≡ bytes → IsWhole files name bytes → length bytes ≤ most_bytes → file_fault seen ≡ Some e
+    → Ends files (λ f. opened f name) (fault.Unlawful e)
+file_unlawful None name bytes seen e same whole h is = tt
+file_unlawful (Some files) name bytes seen e same whole h is = opened_is files name bytes whole h ∙ ap (unless_unlawful bytes) (ap file_fault (sym same) ∙ is)
 
-file_lawful : (files : Option Files) (name bytes line : List ℕ) → IsWhole files name bytes → length bytes ≤ most_bytes → file_fault bytes ≡ None → line ≡ lawful_line (map_of (map_of_file bytes))
-    → IfSome files (λ f. IsLineOf line (opened f name))
-file_lawful None name bytes line whole h fine is = tt
-file_lawful (Some files) name bytes line whole h fine is =
-    let P : Result Rows Ending → Type 0 = IsLineOf line in
-    subst P (sym (opened_is files name bytes whole h ∙ ap (unless_unlawful bytes) fine)) is
+pub file_lawful : (files : Option Files) (name bytes seen : List ℕ) → seen ≡ bytes → IsWhole files name bytes → length bytes ≤ most_bytes → file_fault seen ≡ None
+    → IfSome files (λ f. opened f name ≡ Ok (map_of_file seen))
+file_lawful None name bytes seen same whole h is = tt
+file_lawful (Some files) name bytes seen same whole h is =
+    let fine : file_fault bytes ≡ None = ap file_fault (sym same) ∙ is in
+    opened_is files name bytes whole h ∙ ap (unless_unlawful bytes) fine ∙ ap (λ b. Ok (map_of_file b)) (sym same)
 
--- the same of the results of a call that was handed these bytes
-pub lawful_at : {E : Type 0} (files : Option Files) (said name bytes seen : List ℕ) (r : Result (Vec ℕ Global) E) → said ≡ name → seen ≡ bytes → IsWhole files said bytes → length bytes ≤ most_bytes
-    → OnOk r (file_fault seen ≡ None) → IfOk r (λ line. line.items ≡ lawful_line (map_of (map_of_file seen))) → IfOk r (λ line. IfSome files (λ f. IsLineOf line.items (opened f name)))
-lawful_at files said name bytes seen (Ok line) named same whole h fine is =
-    let P : List ℕ → Type 0 = λ n. IsWhole files n bytes in
-    let Q : List ℕ → Type 0 = λ b. file_fault b ≡ None in
-    let R : List ℕ → Type 0 = λ b. line.items ≡ lawful_line (map_of (map_of_file b)) in
-    file_lawful files name bytes line.items (subst P named whole) h (subst Q same fine) (subst R same is)
-lawful_at files said name bytes seen (Err e) named same whole h fine is = tt
-
-pub unlawful_at : {A : Type 0} (files : Option Files) (said name bytes seen : List ℕ) (r : Result A LoadFault) → said ≡ name → seen ≡ bytes → IsWhole files said bytes → length bytes ≤ most_bytes
-    → IfErr r (IsUnlawful seen) → IfErr r (Ends files (λ f. opened f name))
-unlawful_at files said name bytes seen (Ok line) named same whole h is = tt
-unlawful_at files said name bytes seen (Err e) named same whole h is =
-    let P : List ℕ → Type 0 = λ n. IsWhole files n bytes in
-    let Q : List ℕ → Type 0 = λ b. IsUnlawful b e in
-    file_unlawful files name bytes e (subst P named whole) h (subst Q same is)
+-- the same of the results of a call that was handed this name
+pub file_ends : {A : Type 0} (files : Option Files) (said name : List ℕ) (r : Result A LoadFault) → said ≡ name → IfErr r (IsStopped files said) → IfErr r (NamesOnly said)
+    → IfErr r (Ends files (λ f. opened f name))
+file_ends files said name (Ok x) same stopped named = tt
+file_ends files said name (Err e) same stopped named = file_stopped files said name e same stopped named

@@ -28,12 +28,14 @@ pub record SinkCall : Type 0 where
   pub faults_before : ℕ
   pub faults_after : ℕ
 
--- the form of the words, and what the call met
+-- the form of the words, what the call met, and the count of words read
 pub record Call : Type 0 where
   pub form : Option Form
   pub shelf : ShelfCall
   pub script : SourceCall
   pub out : SinkCall
+  pub steps_before : ℕ
+  pub steps_after : ℕ
 
 -- what a shelf, a source and a sink tell of themselves, before and after
 abbrev pub shelf_call : {H : Type 0} → (H → Option Files) → (H → ℕ) → (H → ℕ) → (H → ℕ) → H → H → ShelfCall
@@ -57,10 +59,18 @@ abbrev pub sink_call : {K : Type 0} → (K → Option (List ℕ)) → (K → ℕ
 sink_call held faults before after =
     record { held_before = held before; held_after = held after; faults_before = faults before; faults_after = faults after }
 
-abbrev pub call_of : Option Form → ShelfCall → SourceCall → SinkCall → Call
-call_of form shelf script out = record { form = form; shelf = shelf; script = script; out = out }
+abbrev pub call_of : Option Form → ShelfCall → SourceCall → SinkCall → ℕ → ℕ → Call
+call_of form shelf script out before after =
+    record { form = form; shelf = shelf; script = script; out = out; steps_before = before; steps_after = after }
 
 -- a source that was not asked for anything
 pub record IsIdle (source : SourceCall) : Type 0 where
   pub left : source.left_after ≡ source.left_before
   pub faults : source.faults_after ≡ source.faults_before
+
+-- a shelf that was not asked for anything
+pub record IsUntouched (shelf : ShelfCall) : Type 0 where
+  pub files : shelf.files_after ≡ shelf.files_before
+  pub misses : shelf.misses_after ≡ shelf.misses_before
+  pub faults : shelf.faults_after ≡ shelf.faults_before
+  pub write_faults : shelf.write_faults_after ≡ shelf.write_faults_before

@@ -3,13 +3,10 @@ pub mod Words
 pub mod Call
 pub mod Tables
 pub mod Text
-pub mod Answering
 pub mod Outcome
 pub mod Files
 pub mod Loading
 pub mod Exit
-pub mod ExplicitWalks
-pub mod ExplicitFirsts
-pub mod Contained
 pub mod Ended
-pub mod Taking
+pub mod Serving
+pub mod RoundTrip

@@ -2,15 +2,11 @@
 use Rattle.std.specs.Prelude.{◌≡◌, ℕ, List, Option, Some, IfSome, Result, Ok, Err, IsTrue, string_bytes, ⊤}
 use Rattle.ports.specs.Outside.{Files, IsNotHeld, Rose}
 use Rattle.topo_cli.specs.Files.{IsLongFile}
-use Rattle.topo_cli.specs.Tables.{Ending, IsTable}
-use Rattle.topo_cli.specs.Text.{lawful_line}
+use Rattle.topo_cli.specs.Tables.{Ending, IsTable, checked, served}
 use Rattle.topo_cli.specs.Outcome.{IsImageOf}
-use Rattle.pemb_file.specs.Lawful.{first_fault as file_fault}
 use Rattle.plane_model.specs.Rows.{Rows}
-use Rattle.plane_model.specs.PlaneMap.{map_of}
 use Rattle.plane_model.specs.Consistent.{is_consistent}
-use Rattle.rotation_check.specs.declared.checks.CheckFault.{CheckFault}
-use Rattle.rotation_check.specs.declared.checks.CheckFault.TheVariants as check
+use Rattle.map_maker.specs.Grid.{grid_of}
 use Rattle.map_build.specs.declared.fault.BuildFault.{BuildFault}
 use Rattle.map_build.specs.declared.fault.BuildFault.TheVariants as build
 use Rattle.topo_csv.specs.declared.fault.CsvFault.{CsvFault}
@@ -75,40 +71,26 @@ IsStopped files name (fault.Missing named) = IsNotHeld files name
 IsStopped files name fault.TooLong = IsLongFile files name
 IsStopped files name e = StopsReading e
 
--- the fault of a check, as one of loading
-abbrev pub IsSameCheck : CheckFault → LoadFault → Type 0
-IsSameCheck (check.Refused why) e = e ≡ fault.Refused why
-IsSameCheck check.Memory e = e ≡ fault.Memory
-
 -- the fault of building, as one of loading
 abbrev pub IsSameBuild : BuildFault → LoadFault → Type 0
 IsSameBuild (build.Refused why) e = e ≡ fault.Refused why
 IsSameBuild build.Memory e = e ≡ fault.Memory
 
--- tables are consistent, and these have their map
-pub record IsMapOf (m t : Rows) : Type 0 where
-  pub consistent : IsTrue (is_consistent t)
-  pub is : map_of m ≡ map_of t
+-- an image of tables that are consistent, those of the folder where that is told
+pub record Builds (files : Option Files) (dir image : List ℕ) : Type 0 where
+  pub tables : Rows
+  pub are : IfSome files (λ held. served held dir ≡ Ok tables)
+  pub consistent : IsTrue (is_consistent tables)
+  pub is : IsImageOf tables image
 
-abbrev pub Serves : Rows → Result Rows Ending → Type 0
-Serves m (Ok t) = IsMapOf m t
-Serves m (Err e) = ⊥
+-- an image of a grid that is consistent
+pub record BuildsGrid (n : ℕ) (image : List ℕ) : Type 0 where
+  pub are : checked (grid_of n) ≡ Ok (grid_of n)
+  pub consistent : IsTrue (is_consistent (grid_of n))
+  pub is : IsImageOf (grid_of n) image
 
--- the bytes are no lawful file, for this reason
-abbrev pub IsUnlawful : List ℕ → LoadFault → Type 0
-IsUnlawful bytes (fault.Missing name) = ⊥
-IsUnlawful bytes fault.ReadFault = ⊥
-IsUnlawful bytes fault.TooLong = ⊥
-IsUnlawful bytes (fault.Refused e) = ⊥
-IsUnlawful bytes (fault.Unlawful e) = file_fault bytes ≡ Some e
-IsUnlawful bytes fault.Memory = ⊤
-
--- the line of the map of a lawful file
-abbrev pub IsLineOf : List ℕ → Result Rows Ending → Type 0
-IsLineOf line (Ok t) = line ≡ lawful_line (map_of t)
-IsLineOf line (Err e) = ⊥
-
--- an image of tables that are consistent
-abbrev pub Builds : List ℕ → Result Rows Ending → Type 0
-Builds image (Ok t) = IsTrue (is_consistent t) × IsImageOf t image
-Builds image (Err e) = ⊥
+-- no name is missing, and no file is unlawful
+abbrev pub NamesNothing : LoadFault → Type 0
+NamesNothing (fault.Refused e) = ⊤
+NamesNothing fault.Memory = ⊤
+NamesNothing e = ⊥

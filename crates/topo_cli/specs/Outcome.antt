@@ -1,23 +1,27 @@
 -- What each status of the program says of a call.
-use Rattle.std.specs.Prelude.{◌≡◌, ℕ, ◌+◌, ◌<◌, ◌≤◌, ◌⊎◌, List, [], ◌++◌, length, Option, Some, None, IfSome, IsSome, Result, Ok, Err, IsTrue, ⊤}
-use Rattle.std.specs.Io.KnownBytes.{Appends}
+use Rattle.std.specs.Prelude.{◌≡◌, ℕ, ◌+◌, ◌*◌, ◌≤◌, ◌⊎◌, List, [], ◌++◌, length, take, Option, Some, None, IfSome, IsSome, Result, Ok, Err, IsTrue, ⊤}
+use Rattle.std.specs.Io.KnownBytes.{Appends, Consumes}
+use Rattle.bit_words.specs.Digits.{digits}
 use Rattle.ports.specs.Outside.{Files, Rose, GainsPart, IsReadToEnd, OthersStay, WhereTold}
+use Rattle.topo_base.specs.Script.{lines}
 use Rattle.topo_base.specs.declared.refusal.Refusal.{Refusal}
 use Rattle.plane_model.specs.Rows.{Rows}
-use Rattle.plane_model.specs.PlaneMap.{map_of}
-use Rattle.plane_model.specs.Consistent.{is_consistent}
+use Rattle.plane_model.specs.PlaneMap.{PlaneMap, map_of}
+use Rattle.plane_model.specs.Consistent.{is_consistent, size}
+use Rattle.plane_model.specs.Answers.{answers}
 use Rattle.pemb_file.specs.Image.{image_of}
 use Rattle.pemb_file.specs.Lawful.{StandsFor, is_lawful}
 use Rattle.map_build.specs.Made.{contents_of_map}
+use Rattle.map_totals.specs.Totals.{adjacent_total, face_total, most_total_words, node_total}
+use Rattle.topo_serve.specs.Serving.{ended_answers, found_by_reads, over_lines, words_of_line}
 use Rattle.pemb_file.specs.declared.fault.FileFault.{FileFault}
 use Rattle.topo_cli.specs.declared.status.Status.{Status}
 use Rattle.topo_cli.specs.declared.status.Status.TheVariants as status
 use Rattle.topo_cli.specs.Limits.{most_bytes}
 use Rattle.topo_cli.specs.Words.{Form}
 use Rattle.topo_cli.specs.Call.{Call, IsIdle}
-use Rattle.topo_cli.specs.Tables.{Ending, IsNeeded, served, subject}
-use Rattle.topo_cli.specs.Answering.{answers_so_far}
-use Rattle.topo_cli.specs.Text.{built_line, lawful_line, status_line}
+use Rattle.topo_cli.specs.Tables.{AreTold, Ending, IsNeeded, IsSubject, OnRead}
+use Rattle.topo_cli.specs.Text.{built_line, lawful_line, status_line, trial_text}
 
 -- what was written, and nothing else
 abbrev pub Wrote : Call → List ℕ → Type 0
@@ -35,41 +39,58 @@ HasForm P (Some k) = P k
 abbrev pub ReadsScript : Form → Type 0
 ReadsScript (Form.Ask dir) = ⊤
 ReadsScript (Form.Build dir file) = ⊥
+ReadsScript (Form.Query file) = ⊤
 ReadsScript (Form.Check file) = ⊥
+ReadsScript (Form.Trial n) = ⊥
 
-abbrev pub ReadsTables : Form → Type 0
-ReadsTables (Form.Ask dir) = ⊤
-ReadsTables (Form.Build dir file) = ⊤
-ReadsTables (Form.Check file) = ⊥
+abbrev pub ChecksTables : Form → Type 0
+ChecksTables (Form.Ask dir) = ⊤
+ChecksTables (Form.Build dir file) = ⊤
+ChecksTables (Form.Query file) = ⊥
+ChecksTables (Form.Check file) = ⊥
+ChecksTables (Form.Trial n) = ⊤
 
-abbrev pub ReadsFile : Form → Type 0
-ReadsFile (Form.Ask dir) = ⊥
-ReadsFile (Form.Build dir file) = ⊥
-ReadsFile (Form.Check file) = ⊤
+abbrev pub OpensFile : Form → Type 0
+OpensFile (Form.Ask dir) = ⊥
+OpensFile (Form.Build dir file) = ⊥
+OpensFile (Form.Query file) = ⊤
+OpensFile (Form.Check file) = ⊤
+OpensFile (Form.Trial n) = ⊥
+
+abbrev pub ReadsShelf : Form → Type 0
+ReadsShelf (Form.Ask dir) = ⊤
+ReadsShelf (Form.Build dir file) = ⊤
+ReadsShelf (Form.Query file) = ⊤
+ReadsShelf (Form.Check file) = ⊤
+ReadsShelf (Form.Trial n) = ⊥
 
 abbrev pub WritesFile : Form → Type 0
 WritesFile (Form.Ask dir) = ⊥
 WritesFile (Form.Build dir file) = ⊤
+WritesFile (Form.Query file) = ⊥
 WritesFile (Form.Check file) = ⊥
+WritesFile (Form.Trial n) = ⊥
 
--- a fact of what comes of the tables or the file that the words name, where the files are told
+-- a fact of what comes of the tables or the file that the words name, where the files that they need are told
 abbrev pub OnSubject : Call → (Form → Result Rows Ending → Type 0) → Type 0
-OnSubject c P = IfSome c.form (λ k. IfSome c.shelf.files_before (λ files. P k (subject files k)))
+OnSubject c P = IfSome c.form (λ k. OnRead c.shelf.files_before k (P k))
 
--- there are tables, of which this holds
-abbrev pub IsServedAnd : (Rows → Type 0) → Result Rows Ending → Type 0
-IsServedAnd P (Ok t) = P t
-IsServedAnd P (Err e) = ⊥
+-- there are consistent tables, of which this holds; they are those that the words name, where the files are told
+pub record HasTables (c : Call) (P : Rows → Type 0) : Type 0 where
+  pub tables : Rows
+  pub are : IfSome c.form (λ k. IsSubject c.shelf.files_before k tables)
+  pub consistent : IsTrue (is_consistent tables)
+  pub holds : P tables
 
 -- the script was not asked for anything
 abbrev pub IsUnread : Call → Type 0
 IsUnread c = IsIdle c.script
 
--- more than the most bytes of the script were taken
-abbrev pub TookTooMuch : Option (List ℕ) → Option (List ℕ) → Type 0
-TookTooMuch None after = ⊤
-TookTooMuch (Some before) None = ⊥
-TookTooMuch (Some before) (Some after) = most_bytes + length after < length before
+-- some bytes of the script were taken, of which this holds
+pub record TookOfScript (c : Call) (P : List ℕ → Type 0) : Type 0 where
+  pub taken : List ℕ
+  pub consumed : Consumes c.script.left_before c.script.left_after taken
+  pub holds : P taken
 
 -- at most so many bytes of the script were taken
 abbrev pub TookAtMost : ℕ → Option (List ℕ) → Option (List ℕ) → Type 0
@@ -94,11 +115,13 @@ abbrev pub IsUnreadUnlessServed : Call → Result Rows Ending → Type 0
 IsUnreadUnlessServed c (Ok t) = ⊤
 IsUnreadUnlessServed c (Err e) = IsUnread c
 
--- it is read for `ask` alone
+-- it is read for `ask` and `query` alone
 abbrev pub ScriptWaits : Call → Form → Type 0
-ScriptWaits c (Form.Ask dir) = IfSome c.shelf.files_before (λ files. IsUnreadUnlessServed c (served files dir))
+ScriptWaits c (Form.Ask dir) = OnRead c.shelf.files_before (Form.Ask dir) (IsUnreadUnlessServed c)
 ScriptWaits c (Form.Build dir file) = IsUnread c
+ScriptWaits c (Form.Query file) = OnRead c.shelf.files_before (Form.Query file) (IsUnreadUnlessServed c)
 ScriptWaits c (Form.Check file) = IsUnread c
+ScriptWaits c (Form.Trial n) = IsUnread c
 
 -- what is taken of the script, whatever the status
 pub record IsScriptTaken (c : Call) (s : Status) : Type 0 where
@@ -130,15 +153,19 @@ pub record HoldsPart (t : Rows) (name : List ℕ) (before after : Files) : Type 
 abbrev pub KeepsFiles : Call → Type 0
 KeepsFiles c = c.shelf.files_after ≡ c.shelf.files_before
 
+-- what a finished `build` leaves, and one whose write failed
+abbrev pub LeftByDone : Call → List ℕ → Result Rows Ending → Type 0
+LeftByDone c file (Ok t) = WhereTold (HoldsImage t file) c.shelf.files_before c.shelf.files_after
+LeftByDone c file (Err e) = ⊥
+
 abbrev pub LeftByFault : Call → List ℕ → Result Rows Ending → Type 0
 LeftByFault c file (Ok t) = WhereTold (HoldsPart t file) c.shelf.files_before c.shelf.files_after
 LeftByFault c file (Err e) = KeepsFiles c
 
 -- what `build DIR FILE` leaves
 abbrev pub LeftByBuild : Call → List ℕ → List ℕ → Status → Type 0
-LeftByBuild c dir file status.Done =
-    IfSome c.shelf.files_before (λ files. IsServedAnd (λ t. WhereTold (HoldsImage t file) c.shelf.files_before c.shelf.files_after) (served files dir))
-LeftByBuild c dir file status.WriteFault = IfSome c.shelf.files_before (λ files. LeftByFault c file (served files dir))
+LeftByBuild c dir file status.Done = OnRead c.shelf.files_before (Form.Build dir file) (LeftByDone c file)
+LeftByBuild c dir file status.WriteFault = OnRead c.shelf.files_before (Form.Build dir file) (LeftByFault c file)
 LeftByBuild c dir file status.Usage = KeepsFiles c
 LeftByBuild c dir file status.TablesRefused = KeepsFiles c
 LeftByBuild c dir file status.FileRefused = KeepsFiles c
@@ -152,25 +179,45 @@ abbrev pub LeavesFiles : Call → Status → Option Form → Type 0
 LeavesFiles c s None = KeepsFiles c
 LeavesFiles c s (Some (Form.Ask dir)) = KeepsFiles c
 LeavesFiles c s (Some (Form.Build dir file)) = LeftByBuild c dir file s
+LeavesFiles c s (Some (Form.Query file)) = KeepsFiles c
 LeavesFiles c s (Some (Form.Check file)) = KeepsFiles c
+LeavesFiles c s (Some (Form.Trial n)) = KeepsFiles c
+
+-- how many words may be read to open the file of a map
+abbrev pub words_to_open : PlaneMap → ℕ
+words_to_open m = 1024 * digits (size m) * (size m + 2)
+
+-- all of the script was taken, and answered from a map; words were read for each item but those of `counts`, and as many as the lines allow
+pub record IsAnswered (c : Call) (m : PlaneMap) (script : List ℕ) : Type 0 where
+  pub whole : IsReadToEnd c.script.left_before c.script.left_after
+  pub short : length script ≤ most_bytes
+  pub wrote : Wrote c (answers m script)
+  pub least : c.steps_before + over_lines (found_by_reads m) (lines script) ≤ c.steps_after
+  pub most : c.steps_after ≤ c.steps_before + words_to_open m + over_lines (words_of_line m) (lines script)
+
+-- a line of the map of a file that was opened was written
+pub record IsReported (c : Call) (m : PlaneMap) (line : List ℕ) : Type 0 where
+  pub wrote : Wrote c line
+  pub most : c.steps_after ≤ c.steps_before + words_to_open m
+
+-- the map of a grid was walked
+pub record IsWalked (c : Call) (m : PlaneMap) (n : ℕ) : Type 0 where
+  pub wrote : Wrote c (trial_text n m)
+  pub least : c.steps_before + (face_total m + node_total m + adjacent_total m) ≤ c.steps_after
+  pub most : c.steps_after ≤ c.steps_before + words_to_open m + most_total_words m
 
 -- what is done for tables that are consistent, or that a lawful file stands for
-abbrev pub Finished : Call → Form → Rows → Type 0
-Finished c (Form.Ask dir) t = IsTrue (is_consistent t) × IfSome c.script.left_before (λ script. Wrote c (answers_so_far (map_of t) script))
-Finished c (Form.Build dir file) t = IsTrue (is_consistent t) × Wrote c (built_line (map_of t))
-Finished c (Form.Check file) t = Wrote c (lawful_line (map_of t))
-
--- the script was read to its end
-abbrev pub ScriptFinished : Call → Form → Type 0
-ScriptFinished c (Form.Ask dir) = IsReadToEnd c.script.left_before c.script.left_after × IfSome c.script.left_before (λ script. length script ≤ most_bytes)
-ScriptFinished c (Form.Build dir file) = ⊤
-ScriptFinished c (Form.Check file) = ⊤
+abbrev pub Finished : Call → Rows → Form → Type 0
+Finished c t (Form.Ask dir) = TookOfScript c (IsAnswered c (map_of t))
+Finished c t (Form.Build dir file) = IsReported c (map_of t) (built_line (map_of t))
+Finished c t (Form.Query file) = TookOfScript c (IsAnswered c (map_of t))
+Finished c t (Form.Check file) = IsReported c (map_of t) (lawful_line (map_of t))
+Finished c t (Form.Trial n) = IsWalked c (map_of t) n
 
 -- all was done
 pub record IsDone (c : Call) : Type 0 where
   pub form : IsSome c.form
-  pub finished : OnSubject c (λ k. IsServedAnd (Finished c k))
-  pub script : IfSome c.form (ScriptFinished c)
+  pub finished : HasTables c (λ t. IfSome c.form (Finished c t))
 
 -- the words are of no form
 pub record IsUsage (c : Call) : Type 0 where
@@ -192,37 +239,45 @@ pub record IsMissing (c : Call) : Type 0 where
 
 -- the tables are refused
 pub record AreTablesRefused (c : Call) : Type 0 where
-  pub form : HasForm ReadsTables c.form
+  pub form : HasForm ChecksTables c.form
   pub why : (e : Refusal) × IsFirst c (Ending.Refused e)
   pub unread : IsUnread c
 
 -- the file is refused
 pub record IsFileRefused (c : Call) : Type 0 where
-  pub form : HasForm ReadsFile c.form
+  pub form : HasForm OpensFile c.form
   pub why : (e : FileFault) × IsFirst c (Ending.Unlawful e)
   pub unread : IsUnread c
+
+-- a read of the shelf failed
+pub record IsShelfFault (c : Call) : Type 0 where
+  pub rose : Rose c.shelf.faults_before c.shelf.faults_after
+  pub form : HasForm ReadsShelf c.form
+  pub wrote : Wrote c []
+  pub unread : IsUnread c
+
+-- the lines that had ended were answered when a read of the script failed
+pub record IsCutOff (c : Call) (m : PlaneMap) (taken : List ℕ) : Type 0 where
+  pub short : length taken ≤ most_bytes
+  pub wrote : Wrote c (ended_answers m taken)
 
 -- the tables are served, and a read of the script failed
 pub record IsScriptFault (c : Call) : Type 0 where
   pub rose : Rose c.script.faults_before c.script.faults_after
   pub form : HasForm ReadsScript c.form
-  pub served : OnSubject c (λ k. IsServedAnd (λ t. ⊤))
-
--- a read of the shelf failed, or a read of the script
-pub record IsReadFault (c : Call) : Type 0 where
-  pub form : IsSome c.form
-  pub cause : (Rose c.shelf.faults_before c.shelf.faults_after × IsUnread c) ⊎ IsScriptFault c
-  pub wrote : Wrote c []
+  pub served : HasTables c (λ t. TookOfScript c (IsCutOff c (map_of t)))
 
 -- a part was written of what a command writes
-abbrev pub FinishedPart : Call → Form → Rows → Type 0
-FinishedPart c (Form.Ask dir) t = IfSome c.script.left_before (λ script. WrotePart c (answers_so_far (map_of t) script) × (length script ≤ most_bytes))
-FinishedPart c (Form.Build dir file) t = WrotePart c (built_line (map_of t))
-FinishedPart c (Form.Check file) t = WrotePart c (lawful_line (map_of t))
+abbrev pub FinishedPart : Call → Rows → Form → Type 0
+FinishedPart c t (Form.Ask dir) = TookOfScript c (λ taken. (length taken ≤ most_bytes) × WrotePart c (answers (map_of t) taken))
+FinishedPart c t (Form.Build dir file) = WrotePart c (built_line (map_of t))
+FinishedPart c t (Form.Query file) = TookOfScript c (λ taken. (length taken ≤ most_bytes) × WrotePart c (answers (map_of t) taken))
+FinishedPart c t (Form.Check file) = WrotePart c (lawful_line (map_of t))
+FinishedPart c t (Form.Trial n) = WrotePart c (trial_text n (map_of t))
 
 -- a part was written of the line of a status, or of what a command writes
 abbrev pub WrotePartOf : Call → Form → Result Rows Ending → Type 0
-WrotePartOf c k (Ok t) = FinishedPart c k t
+WrotePartOf c k (Ok t) = FinishedPart c t k
 WrotePartOf c k (Err Ending.NoForm) = ⊥
 WrotePartOf c k (Err (Ending.Missing name)) = WrotePart c (status_line (Ending.Missing name))
 WrotePartOf c k (Err Ending.Long) = ⊥
@@ -233,7 +288,7 @@ WrotePartOf c k (Err (Ending.Unlawful e)) = WrotePart c (status_line (Ending.Unl
 pub record IsUnwritten (c : Call) : Type 0 where
   pub rose : Rose c.shelf.write_faults_before c.shelf.write_faults_after
   pub form : HasForm WritesFile c.form
-  pub consistent : OnSubject c (λ k. IsServedAnd (λ t. IsTrue (is_consistent t)))
+  pub consistent : HasTables c (λ t. ⊤)
   pub wrote : Wrote c []
 
 -- a write failed
@@ -242,41 +297,28 @@ pub record IsWriteFault (c : Call) : Type 0 where
   pub usage : c.form ≡ None → WrotePart c (status_line Ending.NoForm)
   pub wrote : OnSubject c (WrotePartOf c)
 
--- the answers to a script, where the tables are served
-abbrev pub answers_if_served : Result Rows Ending → List ℕ → List ℕ
-answers_if_served (Ok t) script = answers_so_far (map_of t) script
-answers_if_served (Err e) script = []
-
--- what was written before memory ran out
-abbrev pub WroteForWant : Call → Form → Type 0
-WroteForWant c (Form.Ask dir) =
-    IfSome c.shelf.files_before (λ files. IfSome c.script.left_before (λ script. WrotePart c (answers_if_served (served files dir) script)))
-WroteForWant c (Form.Build dir file) = Wrote c []
-WroteForWant c (Form.Check file) = Wrote c []
-
--- memory ran out
+-- memory ran out, before the script was asked for a byte
 pub record IsMemory (c : Call) : Type 0 where
   pub form : IsSome c.form
-  pub wrote : IfSome c.form (WroteForWant c)
-
-abbrev pub IsLongScript : Call → Form → Type 0
-IsLongScript c (Form.Ask dir) = TookTooMuch c.script.left_before c.script.left_after
-IsLongScript c (Form.Build dir file) = ⊥
-IsLongScript c (Form.Check file) = ⊥
-
-abbrev pub IsLong : Call → Form → Result Rows Ending → Type 0
-IsLong c k (Ok t) = IsLongScript c k
-IsLong c k (Err Ending.NoForm) = ⊥
-IsLong c k (Err (Ending.Missing name)) = ⊥
-IsLong c k (Err Ending.Long) = ⊤
-IsLong c k (Err (Ending.Refused e)) = ⊥
-IsLong c k (Err (Ending.Unlawful e)) = ⊥
-
--- a table, the file, or else the script has too many bytes
-pub record IsTooLong (c : Call) : Type 0 where
-  pub form : IsSome c.form
-  pub first : OnSubject c (IsLong c)
   pub wrote : Wrote c []
+  pub unread : IsUnread c
+
+-- a table or the file has too many bytes
+pub record IsLongHeld (c : Call) : Type 0 where
+  pub form : HasForm ReadsShelf c.form
+  pub first : OnSubject c (λ k read. read ≡ Err Ending.Long)
+  pub wrote : Wrote c []
+  pub unread : IsUnread c
+
+-- the byte behind the most bytes of the script was taken: the lines that end before it were answered
+pub record IsPastTheMost (c : Call) (m : PlaneMap) (taken : List ℕ) : Type 0 where
+  pub past : length taken ≡ most_bytes + 1
+  pub wrote : Wrote c (ended_answers m (take most_bytes taken))
+
+-- the tables are served, and the script has too many bytes
+pub record IsLongScript (c : Call) : Type 0 where
+  pub form : HasForm ReadsScript c.form
+  pub served : HasTables c (λ t. TookOfScript c (IsPastTheMost c (map_of t)))
 
 -- what a status says of the call
 abbrev pub Says : Call → Status → Type 0
@@ -284,11 +326,11 @@ Says c status.Done = IsDone c
 Says c status.Usage = IsUsage c
 Says c status.TablesRefused = AreTablesRefused c
 Says c status.FileRefused = IsFileRefused c
-Says c status.ReadFault = IsReadFault c
+Says c status.ReadFault = IsShelfFault c ⊎ IsScriptFault c
 Says c status.WriteFault = IsWriteFault c
 Says c status.Memory = IsMemory c
 Says c status.Missing = IsMissing c
-Says c status.TooLong = IsTooLong c
+Says c status.TooLong = IsLongHeld c ⊎ IsLongScript c
 
 -- a script that is told and not too long
 pub record IsScriptFine (c : Call) : Type 0 where
@@ -299,16 +341,17 @@ pub record IsScriptFine (c : Call) : Type 0 where
 abbrev pub IsScriptFineFor : Call → Form → Type 0
 IsScriptFineFor c (Form.Ask dir) = IsScriptFine c
 IsScriptFineFor c (Form.Build dir file) = ⊤
+IsScriptFineFor c (Form.Query file) = IsScriptFine c
 IsScriptFineFor c (Form.Check file) = ⊤
+IsScriptFineFor c (Form.Trial n) = ⊤
 
 -- the words are of a form, what they need is told and fine, and no count of faults rose
 pub record IsFine (c : Call) : Type 0 where
   pub asked : Form
   pub form : c.form ≡ Some asked
-  pub files : Files
-  pub told : c.shelf.files_before ≡ Some files
+  pub told : AreTold c.shelf.files_before asked
   pub tables : Rows
-  pub served : subject files asked ≡ Ok tables
+  pub served : IsSubject c.shelf.files_before asked tables
   pub script : IsScriptFineFor c asked
   pub no_shelf_fault : ¬ (Rose c.shelf.faults_before c.shelf.faults_after)
   pub no_write_fault : ¬ (Rose c.shelf.write_faults_before c.shelf.write_faults_after)
@@ -325,3 +368,4 @@ pub record IsPromised (c : Call) (s : Status) : Type 0 where
   pub script : IsScriptTaken c s
   pub files : LeavesFiles c s c.form
   pub complete : IsComplete c s
+  pub counted : c.steps_before ≤ c.steps_after

@@ -1,10 +1,11 @@
 -- What comes of the tables of a folder, and of a built file.
-use Rattle.std.specs.Prelude.{◌≡◌, ℕ, ◌⊎◌, nat_lt, if◌then◌else◌, List, [], length, Option, Some, None, Result, Ok, Err}
+use Rattle.std.specs.Prelude.{◌≡◌, ℕ, ◌⊎◌, nat_lt, if◌then◌else◌, List, [], length, Option, Some, None, IfSome, IsSome, Result, Ok, Err, ⊤}
 use Rattle.ports.specs.Outside.{Files}
 use Rattle.topo_base.specs.declared.refusal.Refusal.{Refusal}
 use Rattle.plane_model.specs.Rows.{Rows}
 use Rattle.plane_model.specs.Reading.{node_rows, edge_rows, face_rows}
 use Rattle.plane_model.specs.Faults.{first_fault}
+use Rattle.map_maker.specs.Grid.{grid_of}
 use Rattle.topo_cli.specs.Limits.{most_bytes}
 use Rattle.pemb_file.specs.Lawful.{first_fault as file_fault, map_of_file}
 use Rattle.pemb_file.specs.declared.fault.FileFault.{FileFault}
@@ -78,11 +79,25 @@ opened_or_missing name (Some bytes) = opened_by bytes
 unfoldable pub opened : Files → List ℕ → Result Rows Ending
 opened files name = opened_or_missing name (files name)
 
--- the tables that a form of words asks for
-abbrev pub subject : Files → Form → Result Rows Ending
-subject files (Form.Ask dir) = served files dir
-subject files (Form.Build dir file) = served files dir
-subject files (Form.Check file) = opened files file
+-- a fact of what comes of the tables that words ask for, where the files that they need are told
+abbrev pub OnRead : Option Files → Form → (Result Rows Ending → Type 0) → Type 0
+OnRead files (Form.Ask dir) P = IfSome files (λ held. P (served held dir))
+OnRead files (Form.Build dir file) P = IfSome files (λ held. P (served held dir))
+OnRead files (Form.Query file) P = IfSome files (λ held. P (opened held file))
+OnRead files (Form.Check file) P = IfSome files (λ held. P (opened held file))
+OnRead files (Form.Trial n) P = P (checked (grid_of n))
+
+-- these are the tables that words ask for
+abbrev pub IsSubject : Option Files → Form → Rows → Type 0
+IsSubject files k t = OnRead files k (λ read. read ≡ Ok t)
+
+-- the files that words need are told
+abbrev pub AreTold : Option Files → Form → Type 0
+AreTold files (Form.Ask dir) = IsSome files
+AreTold files (Form.Build dir file) = IsSome files
+AreTold files (Form.Query file) = IsSome files
+AreTold files (Form.Check file) = IsSome files
+AreTold files (Form.Trial n) = ⊤
 
 -- one of the names that a folder needs
 abbrev pub IsTable : List ℕ → List ℕ → Type 0
@@ -92,4 +107,6 @@ IsTable dir name = (name ≡ node_table dir) ⊎ (name ≡ edge_table dir) ⊎ (
 abbrev pub IsNeeded : Form → List ℕ → Type 0
 IsNeeded (Form.Ask dir) name = IsTable dir name
 IsNeeded (Form.Build dir file) name = IsTable dir name
+IsNeeded (Form.Query file) name = name ≡ file
 IsNeeded (Form.Check file) name = name ≡ file
+IsNeeded (Form.Trial n) name = ⊥

@@ -15,6 +15,7 @@ use Rattle.code_laws.specs.declared.seq_fault.SeqFault.TheVariants as seq
 use Rattle.pemb_file.specs.declared.counts.Counts.{Counts}
 use Rattle.pemb_file.specs.declared.fault.FileFault.{FileFault}
 use Rattle.pemb_file.specs.declared.fault.FileFault.TheVariants as file
+use Rattle.map_totals.specs.Totals.{adjacent_total, face_total, node_total}
 use Rattle.topo_cli.specs.Tables.{Ending}
 
 abbrev pub table_name : Table → List ℕ
@@ -103,6 +104,19 @@ built_line m = counts_line (codes "built") m
 
 abbrev pub lawful_line : PlaneMap → List ℕ
 lawful_line m = counts_line (codes "lawful") m
+
+-- a word and one number
+abbrev pub number_line : List ℕ → ℕ → List ℕ
+number_line word n = word ++ codes " " ++ decimal n ++ 10 ∷ []
+
+-- what `trial` writes of the map of a grid: its size, its counts, and how many items the questions on all its faces and nodes have
+abbrev pub trial_text : ℕ → PlaneMap → List ℕ
+trial_text n m =
+    number_line (codes "trial") n
+    ++ counts_line (codes "counts") m
+    ++ number_line (codes "face") (face_total m)
+    ++ number_line (codes "node") (node_total m)
+    ++ number_line (codes "adjacent") (adjacent_total m)
 
 -- the line that the program writes where nothing is served: of the words, the missing name or the first fault
 abbrev pub status_line : Ending → List ℕ

@@ -1,5 +1,6 @@
 -- The words that the program is given.
-use Rattle.std.specs.Prelude.{ℕ, if◌then◌else◌, List, [], ◌∷◌, ◌++◌, Option, Some, None, codes, bytes_eq}
+use Rattle.std.specs.Prelude.{ℕ, nat_le, if◌then◌else◌, List, [], ◌∷◌, ◌++◌, Option, Some, None, codes, bytes_eq, option_map, option_and_then}
+use Rattle.topo_base.specs.Spelling.{positive_number}
 use Rattle.topo_cli.specs.declared.command.Command.{Command}
 use Rattle.topo_cli.specs.declared.command.Command.TheVariants as command
 
@@ -9,13 +10,25 @@ pub data Form : Type 0 where
   Ask : List ℕ → Form
   -- `build DIR FILE`: the image of a folder's tables, written to a file
   Build : List ℕ → List ℕ → Form
+  -- `query FILE`: answers to the script, from a built file
+  Query : List ℕ → Form
   -- `check FILE`: whether a file is lawful
   Check : List ℕ → Form
+  -- `trial N`: the sums of the walks over the grid of a size
+  Trial : ℕ → Form
+
+-- the size of a grid: plain decimal from 1 to 1000
+abbrev pub grid_size : List ℕ → Option ℕ
+grid_size text = option_and_then (λ n. if nat_le n 1000 then Some n else None) (positive_number text)
 
 abbrev pub form_of_two : List ℕ → List ℕ → Option Form
 form_of_two word [] = None
 form_of_two word (b ∷ name) =
-    if bytes_eq word (codes "ask") then Some (Ask (b ∷ name)) else if bytes_eq word (codes "check") then Some (Check (b ∷ name)) else None
+    if bytes_eq word (codes "ask") then Some (Ask (b ∷ name))
+    else if bytes_eq word (codes "query") then Some (Query (b ∷ name))
+    else if bytes_eq word (codes "check") then Some (Check (b ∷ name))
+    else if bytes_eq word (codes "trial") then option_map Trial (grid_size (b ∷ name))
+    else None
 
 abbrev pub form_of_three : List ℕ → List ℕ → List ℕ → Option Form
 form_of_three word [] file = None
@@ -34,7 +47,9 @@ form (word ∷ dir ∷ file ∷ fourth ∷ more) = None
 abbrev pub form_of : Command → Form
 form_of (command.Ask dir) = Ask dir.now
 form_of (command.Build dir file) = Build dir.now file.now
+form_of (command.Query file) = Query file.now
 form_of (command.Check file) = Check file.now
+form_of (command.Trial size) = Trial size
 
 -- the names of a folder's tables
 abbrev pub node_table : List ℕ → List ℕ

@@ -1,7 +1,9 @@
 //! What the words of the command line ask for.
 
 ghost use Rattle.std.specs.Prelude.{◌≡◌, map, option_map, string_bytes};
-ghost use Rattle.topo_cli.specs.Words.{form, form_of, form_of_three, form_of_two};
+ghost use Rattle.topo_cli.specs.Words.{form, form_of, form_of_three, form_of_two, grid_size};
+
+use topo_base::read_positive;
 
 /// What the words ask for.
 #[derive(Clone, Copy, Debug, PartialEq, Eq)]
@@ -10,8 +12,25 @@ pub enum Command<'a> {
     Ask { dir: &'a str },
     /// The image of a folder's tables, written to a file.
     Build { dir: &'a str, file: &'a str },
+    /// Answers to the script, from a built file.
+    Query { file: &'a str },
     /// Whether a file is lawful.
     Check { file: &'a str },
+    /// The sums of the walks over the grid of a size.
+    Trial { size: u32 },
+}
+
+/// The most squares along a side of a grid.
+const LARGEST_GRID: u32 = 1000;
+
+/// The size of a grid.
+fn read_grid_size(text: &str) -> Option<u32>
+    ensures { result ≡ grid_size text.now }
+{
+    match read_positive(text.as_bytes()) {
+        Some(size) if size <= LARGEST_GRID => Some(size),
+        _ => None,
+    }
 }
 
 /// A command and one name.
@@ -22,8 +41,15 @@ fn command_of_two<'a>(word: &str, name: &'a str) -> Option<Command<'a>>
         None
     } else if word == "ask" {
         Some(Command::Ask { dir: name })
+    } else if word == "query" {
+        Some(Command::Query { file: name })
     } else if word == "check" {
         Some(Command::Check { file: name })
+    } else if word == "trial" {
+        match read_grid_size(name) {
+            Some(size) => Some(Command::Trial { size }),
+            None => None,
+        }
     } else {
         None
     }

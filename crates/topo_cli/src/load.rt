@@ -7,18 +7,15 @@ ghost use Rattle.plane_model.specs.InRange.{is_edge_in_range, is_face_id, is_id,
 ghost use Rattle.plane_model.specs.Reading.{edge_rows, face_rows, node_rows};
 ghost use Rattle.plane_model.specs.Rows.{rows_of};
 ghost use Rattle.topo_cli.specs.Files.{IsWhole};
-ghost use Rattle.topo_cli.specs.Loading.{Builds, Ends, Serves, IsShown, IsStopped, NamesNeeded, NamesOnly};
+ghost use Rattle.topo_cli.specs.Loading.{Builds, Ends, IsShown, IsStopped, NamesFile, NamesNeeded, NamesOnly};
 ghost use Rattle.topo_cli.specs.Limits.{most_bytes};
-ghost use Rattle.topo_cli.specs.Tables.{loaded, served, table};
+ghost use Rattle.topo_cli.specs.Tables.{loaded, opened, served, table};
 ghost use Rattle.topo_cli.specs.Words.{edge_table, face_table, node_table};
 
-use crate::explicit::placed::PlacedMap;
 use crate::files::{FileFault, read_file};
-use crate::map_check::check_map;
 use map_build::{BuildFault, build};
 use plane_model::{EdgeRow, FaceRow, NodeRow, Tables};
 use ports::Shelf;
-use rotation_check::CheckFault;
 use std::alloc::{AllocError, Global};
 use topo_base::Refusal;
 use topo_csv::{CsvFault, read_edges, read_faces, read_nodes};
@@ -60,19 +57,6 @@ impl From<CsvFault> for LoadFault {
         match fault {
             CsvFault::Refused(why) => LoadFault::Refused(why),
             CsvFault::Memory => LoadFault::Memory,
-        }
-    }
-}
-
-impl From<CheckFault> for LoadFault {
-    ghost use Rattle.topo_cli.specs.Loading.{IsSameCheck};
-
-    ghost from_gives = { IsSameCheck };
-
-    fn from(fault: CheckFault) -> LoadFault {
-        match fault {
-            CheckFault::Refused(why) => LoadFault::Refused(why),
-            CheckFault::Memory => LoadFault::Memory,
         }
     }
 }
@@ -195,24 +179,9 @@ pub fn load_tables<H: Shelf>(alloc: Global, shelf: &mut H, dir: &str) -> Result<
     })
 }
 
-/// The map of a folder whose tables are consistent.
-pub fn load_map<H: Shelf>(alloc: Global, shelf: &mut H, dir: &str) -> Result<PlacedMap, LoadFault>
-    ensures served { IfOk result (λ map. IfSome (H.files shelf.old) (λ files. Serves map (served files dir.now))) }
-    ensures ends { IfErr result (Ends (H.files shelf.old) (λ files. served files dir.now)) }
-    ensures named { IfErr result (NamesNeeded dir.now) }
-    ensures shown { IfErr result (λ e. IsShown e (H.misses shelf.old) (H.misses shelf.new) (H.faults shelf.old) (H.faults shelf.new)) }
-    ensures kept { H.files shelf.new ≡ H.files shelf.old }
-    ensures never_falls { H.faults shelf.old ≤ H.faults shelf.new }
-    ensures misses_never_fall { H.misses shelf.old ≤ H.misses shelf.new }
-    ensures no_write_fault { H.write_faults shelf.new ≡ H.write_faults shelf.old }
-{
-    let tables = load_tables(alloc, shelf, dir)?;
-    Ok(check_map(alloc, &tables)?)
-}
-
 /// The image of a folder's tables that are consistent.
 pub fn load_image<H: Shelf>(alloc: Global, shelf: &mut H, dir: &str) -> Result<Vec<u8>, LoadFault>
-    ensures built { IfOk result (λ image. IfSome (H.files shelf.old) (λ files. Builds image.items (served files dir.now))) }
+    ensures built { IfOk result (λ image. Builds (H.files shelf.old) dir.now image.items) }
     ensures ends { IfErr result (Ends (H.files shelf.old) (λ files. served files dir.now)) }
     ensures named { IfErr result (NamesNeeded dir.now) }
     ensures shown { IfErr result (λ e. IsShown e (H.misses shelf.old) (H.misses shelf.new) (H.faults shelf.old) (H.faults shelf.new)) }
@@ -223,4 +192,17 @@ pub fn load_image<H: Shelf>(alloc: Global, shelf: &mut H, dir: &str) -> Result<V
 {
     let tables = load_tables(alloc, shelf, dir)?;
     Ok(build(alloc, &tables)?)
+}
+
+/// The bytes of a built file.
+pub fn load_file<H: Shelf>(alloc: Global, shelf: &mut H, file: &str) -> Result<Vec<u8>, LoadFault>
+    ensures whole { IfOk result (λ bytes. IsWhole (H.files shelf.old) file.now bytes.items) }
+    ensures short { IfOk result (λ bytes. length bytes.items ≤ most_bytes) }
+    ensures ends { IfErr result (Ends (H.files shelf.old) (λ files. opened files file.now)) }
+    ensures named { IfErr result (NamesFile file.now) }
+    ensures shown { IfErr result (λ e. IsShown e (H.misses shelf.old) (H.misses shelf.new) (H.faults shelf.old) (H.faults shelf.new)) }
+    ensures kept { H.files shelf.new ≡ H.files shelf.old }
+{
+    let name = String::from_str(alloc, file)?;
+    held_bytes(alloc, shelf, name)
 }

@@ -1,8 +1,9 @@
 //! Answers questions on a map from its PostGIS Topology tables, `tackcherry ask DIR < SCRIPT`; puts the map into a file,
-//! `tackcherry build DIR FILE`; and tells whether a file is lawful, `tackcherry check FILE`.
+//! `tackcherry build DIR FILE`; answers from that file, `tackcherry query FILE < SCRIPT`; tells whether a file is lawful,
+//! `tackcherry check FILE`; and tries itself on a grid, `tackcherry trial N`.
 #![tactic(auto)]
 
-ghost use Rattle.std.specs.Prelude.{◌≡◌, ◌<◌, IfOk, drop, map, string_bytes};
+ghost use Rattle.std.specs.Prelude.{◌≡◌, ◌<◌, ℕ, IfOk, drop, map, string_bytes};
 ghost use Rattle.std.specs.Process.{exit_status};
 ghost use Rattle.std.specs.Vec.Iter.{into_iter_items};
 ghost use Rattle.topo_cli.specs.Call.{call_of, shelf_call, sink_call, source_call};
@@ -10,19 +11,19 @@ ghost use Rattle.topo_cli.specs.Exit.{exit_status as number_of_status};
 ghost use Rattle.topo_cli.specs.Outcome.{IsPromised};
 ghost use Rattle.topo_cli.specs.Words.{form};
 
-pub mod answer;
 pub mod command;
-pub mod explicit;
+pub mod counting;
 pub mod files;
+pub mod image;
+pub mod laws;
 pub mod lines;
 pub mod load;
-pub mod map_check;
-pub mod opened;
-pub mod script;
+pub mod serving;
 pub mod status;
 #[cfg(test)]
 mod tests;
 pub mod top;
+pub mod trial;
 
 use bit_words::Steps;
 use ports::{FileShelf, Shelf, Sink, Source, StdSink, StdSource};
@@ -108,8 +109,8 @@ fn run_uncounted<H: Shelf, S: Source, K: Sink, L: Ledger>(
     requires name { blank.name ≡ L.name }
     requires parts { blank.parts ≡ L.parts }
     requires some { 0 < blank.parts }
-    ensures { IsPromised (call_of (form (map string_bytes words.now)) (shelf_call H.files H.misses H.faults H.write_faults shelf.old shelf.new)
-        (source_call S.left S.faults script.old script.new) (sink_call K.held K.faults out.old out.new)) result }
+    ensures { (read : ℕ) × IsPromised (call_of (form (map string_bytes words.now)) (shelf_call H.files H.misses H.faults H.write_faults shelf.old shelf.new)
+        (source_call S.left S.faults script.old script.new) (sink_call K.held K.faults out.old out.new) 0 read) result }
 {
     let mut steps = Steps::<L>::new(alloc, blank);
     run(alloc, words, shelf, script, out, &mut steps)

@@ -38,13 +38,13 @@ const TRIANGLE: Folder = Folder {
     faces: Some("face_id\n0\n1\n"),
 };
 
-const CASES: [Case; 28] = [
+const CASES: [Case; 31] = [
     Case {
-        shows: "rings of the triangle",
+        shows: "rings, faces and islands of the triangle",
         folder: TRIANGLE,
-        script: b"ring 1\nring -2\nring 9\nface 1\n",
+        script: b"ring 1\nring -2\nring 9\nface 1\nface 0\nadjacent 0\nislands 0\nface 2\n",
         status: Status::Done,
-        out: "ring 1: 1 2 3\nring -2: -2 -1 -3\nring 9: unknown\nbad\n",
+        out: "ring 1: 1 2 3\nring -2: -2 -1 -3\nring 9: unknown\nface 1: 1 2 3\nface 0: -1 -3 -2\nadjacent 0: 1\nislands 0: -1\nface 2: unknown\n",
     },
     Case {
         shows: "nodes, nexts, ends, sides, the containing face and the counts of the triangle",
@@ -73,9 +73,9 @@ const CASES: [Case; 28] = [
             1,1,2,2,-3,1,0\n2,2,3,3,-1,1,0\n3,3,1,1,-2,1,0\n4,4,4,4,-4,2,1\n",
             faces: Some("face_id\n0\n1\n2\n"),
         },
-        script: b"node 5\nnode 4\nring -4\nsides 4\ncontains 4\ncontains 5\ncontains 6\ncounts\n",
+        script: b"face 1\nadjacent 1\nadjacent 1\nislands 1\nislands 2\nnode 5\nnode 4\nring -4\nsides 4\ncontains 4\ncontains 5\ncontains 6\nregions 1\ncommon 1 2\ncommon 1 9\ncounts\n",
         status: Status::Done,
-        out: "node 5:\nnode 4: 4 -4\nring -4: -4\nsides 4: 2 1\ncontains 4: 1\ncontains 5: 2\ncontains 6: unknown\ncounts: 5 4 2 2 0\n",
+        out: "face 1: 1 2 3 -4\nadjacent 1: 0 2\nadjacent 1: 0 2\nislands 1: -4\nislands 2: n5\nnode 5:\nnode 4: 4 -4\nring -4: -4\nsides 4: 2 1\ncontains 4: 1\ncontains 5: 2\ncontains 6: unknown\nregions 1:\ncommon 1 2:\ncommon 1 9: unknown\ncounts: 5 4 2 2 0\n",
     },
     Case {
         shows: "closed edges that are nested three deep, two of them in one face",
@@ -90,15 +90,51 @@ const CASES: [Case; 28] = [
         out: "contains 1: 0\ncontains 2: 1\ncontains 3: 2\ncontains 4: 1\ncontains 5: 3\ncounts: 5 4 4 4 0\n",
     },
     Case {
+        shows: "an edge with one face on both sides",
+        folder: Folder {
+            nodes: "node_id,containing_face\n1,\n2,\n",
+            edges: "edge_id,start_node,end_node,next_left_edge,next_right_edge,left_face,right_face\n\
+            1,1,2,-1,1,0,0\n",
+            faces: Some("face_id\n"),
+        },
+        script: b"ring 1\nnode 2\nadjacent 0\n",
+        status: Status::Done,
+        out: "ring 1: 1 -1\nnode 2: -1\nadjacent 0:\n",
+    },
+    Case {
+        shows: "a closed edge",
+        folder: Folder {
+            nodes: "node_id,containing_face\n1,\n",
+            edges: "edge_id,start_node,end_node,next_left_edge,next_right_edge,left_face,right_face\n\
+            1,1,1,1,-1,1,0\n",
+            faces: Some("face_id\n1\n"),
+        },
+        script: b"ring 1\nnode 1\nface 0\n",
+        status: Status::Done,
+        out: "ring 1: 1\nnode 1: 1 -1\nface 0: -1\n",
+    },
+    Case {
+        shows: "two triangles side by side",
+        folder: Folder {
+            nodes: "node_id,containing_face\n1,\n2,\n3,\n4,\n5,\n6,\n",
+            edges: "edge_id,start_node,end_node,next_left_edge,next_right_edge,left_face,right_face\n\
+            1,1,2,2,-3,1,0\n2,2,3,3,-1,1,0\n3,3,1,1,-2,1,0\n4,4,5,5,-6,2,0\n5,5,6,6,-4,2,0\n6,6,4,4,-5,2,0\n",
+            faces: Some("face_id\n1\n2\n"),
+        },
+        script: b"ring -2\nnode 2\nface 0\nislands 0\ncounts\n",
+        status: Status::Done,
+        out: "ring -2: -2 -1 -3\nnode 2: -1 2\nface 0: -1 -3 -2 -4 -6 -5\nislands 0: -1 -4\ncounts: 6 6 2 2 0\n",
+    },
+    Case {
         shows: "tables without rows",
         folder: Folder {
             nodes: "node_id,containing_face\n",
             edges: "edge_id,start_node,end_node,next_left_edge,next_right_edge,left_face,right_face\n",
             faces: Some("face_id\n"),
         },
-        script: b"contains 1\ncounts\nislands 0\n",
+        script: b"contains 1\nface 0\ncounts\nislands 0\n",
         status: Status::Done,
-        out: "contains 1: unknown\ncounts: 0 0 0 0 0\nbad\n",
+        out: "contains 1: unknown\nface 0:\ncounts: 0 0 0 0 0\nislands 0:\n",
     },
     Case {
         shows: "the columns of edge_data, in another order, all in quotes, with CR LF",
@@ -344,23 +380,25 @@ const CASES: [Case; 28] = [
     },
 ];
 
-/// The words of the first command.
-fn ask_words(alloc: Global, folder: &str) -> Result<Vec<String>, AllocError> {
-    let ask = String::from_str(alloc, "ask")?;
-    let folder = String::from_str(alloc, folder)?;
-    Ok(vec![in alloc; ask, folder]?)
+/// These words as strings.
+fn strings(alloc: Global, words: &[&str]) -> Result<Vec<String>, AllocError> {
+    let mut strings = Vec::new(alloc);
+    for word in words {
+        strings.push(String::from_str(alloc, word)?)?;
+    }
+    Ok(strings)
 }
 
-/// A run of `ask` over these objects.
-fn ask<H: Shelf, S: Source, K: Sink, L: Ledger>(
+/// A run of these words over these objects.
+fn run_words<H: Shelf, S: Source, K: Sink, L: Ledger>(
     alloc: Global,
-    folder: &str,
+    words: &[&str],
     shelf: &mut H,
     script: &mut S,
     out: &mut K,
     steps: &mut Steps<L>,
 ) -> Result<Status, AllocError> {
-    let words = ask_words(alloc, folder)?;
+    let words = strings(alloc, words)?;
     Ok(run(alloc, &words, shelf, script, out, steps))
 }
 
@@ -379,13 +417,44 @@ fn shelf_of<'a>(
     Ok(shelf)
 }
 
-/// Whether a case ends as it has to.
-fn ends_well<L: Ledger>(alloc: Global, case: &Case, steps: &mut Steps<L>) -> Result<bool, Fail> {
-    let mut shelf = shelf_of(alloc, &case.folder, &[])?;
+/// Whether these words, over the shelf and the script of a case, end as it has to.
+fn answers_well<L: Ledger>(
+    alloc: Global,
+    words: &[&str],
+    case: &Case,
+    shelf: &mut MemoryShelf<'_>,
+    steps: &mut Steps<L>,
+) -> Result<bool, Fail> {
     let mut script = MemorySource::new(case.script, 7, &[]);
     let mut out = MemorySink::new(alloc, &[]);
-    let status = ask(alloc, "maps", &mut shelf, &mut script, &mut out, steps)?;
+    let status = run_words(alloc, words, shelf, &mut script, &mut out, steps)?;
     Ok(status == case.status && out.bytes() == case.out.as_bytes())
+}
+
+/// Builds the folder into a file.
+fn build<L: Ledger>(
+    alloc: Global,
+    shelf: &mut MemoryShelf<'_>,
+    steps: &mut Steps<L>,
+) -> Result<Status, Fail> {
+    let mut script = MemorySource::new(b"", 1, &[]);
+    let mut out = MemorySink::new(alloc, &[]);
+    let words = ["build", "maps", "map.pemb"];
+    Ok(run_words(alloc, &words, shelf, &mut script, &mut out, steps)?)
+}
+
+/// Whether a case ends as it has to, from the tables and from the file that is built of them.
+fn ends_well<L: Ledger>(alloc: Global, case: &Case, steps: &mut Steps<L>) -> Result<bool, Fail> {
+    let mut shelf = shelf_of(alloc, &case.folder, &[])?;
+    let asked = answers_well(alloc, &["ask", "maps"], case, &mut shelf, steps)?;
+    if build(alloc, &mut shelf, steps)? != case.status {
+        return Ok(false);
+    }
+    if case.status != Status::Done {
+        return Ok(asked);
+    }
+    let words = ["query", "map.pemb"];
+    Ok(asked && answers_well(alloc, &words, case, &mut shelf, steps)?)
 }
 
 /// What the first case shows that doesn't end as it has to.
@@ -426,7 +495,8 @@ fn ends_failing<L: Ledger>(
     let mut script = MemorySource::new(b"ring 1\nring 2\n", 7, script);
     let mut out = MemorySink::new(alloc, out);
     let mut steps = Steps::<L>::new(alloc, blank);
-    let status = ask(alloc, "maps", &mut shelf, &mut script, &mut out, &mut steps)?;
+    let words = ["ask", "maps"];
+    let status = run_words(alloc, &words, &mut shelf, &mut script, &mut out, &mut steps)?;
     Ok((status, out.bytes().len()))
 }
 
@@ -436,9 +506,9 @@ fn faults_of_the_outside_end_the_run(rt: HostRuntime) -> Result<(), Fail> {
     let shelf = ends_failing::<Brand>(alloc, &[4], &[], &[], Blank::new(1))?;
     assert_eq!(rt; shelf, (Status::ReadFault, 0));
     let script = ends_failing::<Brand>(alloc, &[], &[2], &[], Blank::new(1))?;
-    assert_eq!(rt; script, (Status::ReadFault, 0));
+    assert_eq!(rt; script, (Status::ReadFault, 14));
     let out = ends_failing::<Brand>(alloc, &[], &[], &[1], Blank::new(1))?;
-    assert_eq!(rt; out, (Status::WriteFault, 14));
+    assert_eq!(rt; out, (Status::WriteFault, 7));
     Ok(())
 }
 
@@ -454,9 +524,10 @@ fn answers_from_files<L: Ledger>(rt: &HostRuntime, blank: Blank) -> Result<(Stat
     let mut script = StdSource::new(b"ring 1\nring -2\nring 9\nface 1\n".as_slice());
     let mut out = StdSink::new(Vec::new(rt.alloc()));
     let mut steps = Steps::<L>::new(rt.alloc(), blank);
-    let status = ask(
+    let words = ["ask", FOLDER];
+    let status = run_words(
         rt.alloc(),
-        FOLDER,
+        &words,
         &mut shelf,
         &mut script,
         &mut out,
@@ -475,7 +546,7 @@ fn files_of_the_system_are_answered(rt: HostRuntime) -> Result<(), Fail> {
     let (status, out) = answers_from_files::<Brand>(&rt, Blank::new(1))?;
     fs::remove_dir_all(&rt, FOLDER)?;
     assert_eq!(rt; status, Status::Done);
-    let wanted = b"ring 1: 1 2 3\nring -2: -2 -1 -3\nring 9: unknown\nbad\n";
+    let wanted = b"ring 1: 1 2 3\nring -2: -2 -1 -3\nring 9: unknown\nface 1: 1 2 3\n";
     assert_eq!(rt; out.as_slice(), wanted.as_slice());
     Ok(())
 }
@@ -528,25 +599,16 @@ fn bytes_of(alloc: Global, words: &[u64]) -> Result<Vec<u8>, Fail> {
     Ok(bytes)
 }
 
-fn strings(alloc: Global, words: &[&str]) -> Result<Vec<String>, AllocError> {
-    let mut strings = Vec::new(alloc);
-    for word in words {
-        strings.push(String::from_str(alloc, word)?)?;
-    }
-    Ok(strings)
-}
-
 /// A run of these words over a script that can't be read.
-fn run_words<H: Shelf, K: Sink, L: Ledger>(
+fn run_unasked<H: Shelf, K: Sink, L: Ledger>(
     alloc: Global,
     words: &[&str],
     shelf: &mut H,
     out: &mut K,
     steps: &mut Steps<L>,
 ) -> Result<Status, AllocError> {
-    let words = strings(alloc, words)?;
     let mut script = MemorySource::new(b"ring 1\n", 7, &[1]);
-    Ok(run(alloc, &words, shelf, &mut script, out, steps))
+    run_words(alloc, words, shelf, &mut script, out, steps)
 }
 
 /// The calls that fail while the triangle is built, and how that has to end: `held` is how many bytes of the image
@@ -671,7 +733,7 @@ fn builds_well<L: Ledger>(
     let mut shelf = shelf_of(alloc, &TRIANGLE, case.shelf)?;
     let mut out = MemorySink::new(alloc, case.sink);
     let words = ["build", "maps", "map.pemb"];
-    let status = run_words(alloc, &words, &mut shelf, &mut out, steps)?;
+    let status = run_unasked(alloc, &words, &mut shelf, &mut out, steps)?;
     let held = holds_front(alloc, shelf.file("map.pemb"), case.held)?;
     Ok(held && status == case.status && out.bytes() == case.out.as_bytes())
 }
@@ -873,7 +935,7 @@ fn checks_well<L: Ledger>(
     let mut shelf = MemoryShelf::new(alloc, &[]);
     shelf.add("map.pemb", &case_bytes(alloc, case)?)?;
     let mut out = MemorySink::new(alloc, &[]);
-    let status = run_words(alloc, &["check", "map.pemb"], &mut shelf, &mut out, steps)?;
+    let status = run_unasked(alloc, &["check", "map.pemb"], &mut shelf, &mut out, steps)?;
     Ok(status == case.status && out.bytes() == case.out.as_bytes())
 }
 
@@ -917,9 +979,9 @@ fn built_and_checked<L: Ledger>(
     let mut out = StdSink::new(Vec::new(alloc));
     let mut steps = Steps::<L>::new(alloc, blank);
     let words = ["build", BUILD_FOLDER, BUILT_FILE];
-    let built = run_words(alloc, &words, &mut shelf, &mut out, &mut steps)?;
+    let built = run_unasked(alloc, &words, &mut shelf, &mut out, &mut steps)?;
     let words = ["check", BUILT_FILE];
-    let checked = run_words(alloc, &words, &mut shelf, &mut out, &mut steps)?;
+    let checked = run_unasked(alloc, &words, &mut shelf, &mut out, &mut steps)?;
     Ok((built, checked, out.into_inner()))
 }
 
@@ -938,5 +1000,100 @@ fn files_of_the_system_are_built_and_checked(rt: HostRuntime) -> Result<(), Fail
     assert_eq!(rt; out.as_slice(), wanted.as_slice());
     let image = image?;
     assert!(rt; holds_front(rt.alloc(), Some(&image), Some(280))?);
+    Ok(())
+}
+
+/// A run of `query` over the triangle's file whose script or output fails at some call: its status, and what it wrote.
+fn queries_failing<L: Ledger>(
+    alloc: Global,
+    script: &[u64],
+    out: &[u64],
+    steps: &mut Steps<L>,
+) -> Result<(Status, Vec<u8>), Fail> {
+    let mut shelf = MemoryShelf::new(alloc, &[]);
+    shelf.add("map.pemb", &bytes_of(alloc, &TRIANGLE_IMAGE)?)?;
+    let mut script = MemorySource::new(b"node 1\nnode 2\nnode 3\n", 7, script);
+    let mut out = MemorySink::new(alloc, out);
+    let words = ["query", "map.pemb"];
+    let status = run_words(alloc, &words, &mut shelf, &mut script, &mut out, steps)?;
+    let mut bytes = Vec::new(alloc);
+    bytes.extend_from_slice(out.bytes())?;
+    Ok((status, bytes))
+}
+
+/// Whether the script's third call that fails leaves the first two answers.
+fn keeps_answers_at_a_failed_read<L: Ledger>(
+    alloc: Global,
+    steps: &mut Steps<L>,
+) -> Result<bool, Fail> {
+    let (status, out) = queries_failing(alloc, &[3], &[], steps)?;
+    Ok(status == Status::ReadFault && out.as_slice() == b"node 1: 1 -3\nnode 2: -1 2\n".as_slice())
+}
+
+/// Whether each failing write leaves a front of the answers, and a call that is not made all of them.
+fn keeps_fronts_at_failed_writes<L: Ledger>(
+    alloc: Global,
+    steps: &mut Steps<L>,
+) -> Result<bool, Fail> {
+    let (status, all) = queries_failing(alloc, &[], &[4], steps)?;
+    let mut fine = status == Status::Done
+        && all.as_slice() == b"node 1: 1 -3\nnode 2: -1 2\nnode 3: -2 3\n".as_slice();
+    for call in 1..4 {
+        let (status, out) = queries_failing(alloc, &[], &[call], steps)?;
+        fine = fine && status == Status::WriteFault && all.starts_with(&out);
+    }
+    Ok(fine)
+}
+
+/// Whether a file is queried as it has to be whose script or output fails.
+fn fails_well<L: Ledger>(alloc: Global, blank: Blank) -> Result<bool, Fail>
+    requires name { blank.name ≡ L.name }
+    requires parts { blank.parts ≡ L.parts }
+    requires some { 0 < blank.parts }
+{
+    let mut steps = Steps::<L>::new(alloc, blank);
+    let reads = keeps_answers_at_a_failed_read(alloc, &mut steps)?;
+    Ok(reads && keeps_fronts_at_failed_writes(alloc, &mut steps)?)
+}
+
+#[test]
+fn queries_leave_fronts_of_answers(rt: HostRuntime) -> Result<(), Fail> {
+    assert!(rt; fails_well::<Brand>(rt.alloc(), Blank::new(1))?);
+    Ok(())
+}
+
+/// Whether `trial` writes this of the grid of a size.
+fn tries<L: Ledger>(
+    alloc: Global,
+    size: &str,
+    wanted: &str,
+    steps: &mut Steps<L>,
+) -> Result<bool, Fail> {
+    let mut shelf = MemoryShelf::new(alloc, &[]);
+    let mut out = MemorySink::new(alloc, &[]);
+    let _status = run_unasked(alloc, &["trial", size], &mut shelf, &mut out, steps)?;
+    Ok(out.bytes() == wanted.as_bytes())
+}
+
+/// Whether `trial` writes what it has to.
+fn tries_well<L: Ledger>(alloc: Global, blank: Blank) -> Result<bool, Fail>
+    requires name { blank.name ≡ L.name }
+    requires parts { blank.parts ≡ L.parts }
+    requires some { 0 < blank.parts }
+{
+    let mut steps = Steps::<L>::new(alloc, blank);
+    let one = "trial 1\ncounts 4 4 1 1 0\nface 8\nnode 8\nadjacent 2\n";
+    let large =
+        "trial 300\ncounts 111639 193457 102857 12858 0\nface 386914\nnode 386914\nadjacent 386906\n";
+    Ok(
+        tries(alloc, "1", one, &mut steps)?
+            && tries(alloc, "300", large, &mut steps)?
+            && tries(alloc, "1001", "usage\n", &mut steps)?,
+    )
+}
+
+#[test]
+fn grids_are_tried(rt: HostRuntime) -> Result<(), Fail> {
+    assert!(rt; tries_well::<Brand>(rt.alloc(), Blank::new(1))?);
     Ok(())
 }

@@ -1,20 +1,22 @@
 //! The top call.
 
 ghost use Rattle.std.specs.Prelude.{◌≤◌, Some, map, string_bytes};
-ghost use Rattle.topo_cli.specs.Call.{IsIdle, SourceCall, call_of, shelf_call, sink_call, source_call};
+ghost use Rattle.topo_cli.specs.Call.{IsIdle, IsUntouched, ShelfCall, SourceCall, call_of, shelf_call, sink_call, source_call};
 ghost use Rattle.topo_cli.specs.Ended.{EndsLoading, IsTold};
 ghost use Rattle.topo_cli.specs.Outcome.{IsPromised};
 ghost use Rattle.topo_cli.specs.Words.{Form, form};
 
-use crate::answer::{AnswerFault, answer_script};
 use crate::command::{Command, command_of};
+use crate::counting::line_of_counts;
 use crate::files::write_file;
+use crate::image::open_image;
 use crate::lines::{missing_text, refused_text, unlawful_text};
-use crate::load::{LoadFault, load_image, load_map};
-use crate::opened::{line_of_file, load_lawful_line};
-use crate::script::{ScriptFault, read_script};
+use crate::load::{LoadFault, load_file, load_image};
+use crate::serving::serve_script;
 use crate::status::Status;
+use crate::trial::{grid_image, trial_lines};
 use bit_words::Steps;
+use pemb_file::open;
 use ports::{Failed, Shelf, Sink, Source};
 use std::alloc::Global;
 use std::sync::ledger::Ledger;
@@ -52,32 +54,24 @@ fn end_loading<K: Sink>(alloc: Global, fault: LoadFault, out: &mut K) -> Status
     }
 }
 
-/// Answers the script from the tables of a folder.
-fn ask<H: Shelf, S: Source, K: Sink>(
+/// Answers the script from the tables of a folder: from the image of their map, opened.
+fn ask<H: Shelf, S: Source, K: Sink, L: Ledger>(
     alloc: Global,
     dir: &str,
     shelf: &mut H,
     script: &mut S,
     out: &mut K,
+    steps: &mut Steps<L>,
 ) -> Status
     ensures { IsPromised (call_of (Some (Form.Ask dir.now)) (shelf_call H.files H.misses H.faults H.write_faults shelf.old shelf.new)
-        (source_call S.left S.faults script.old script.new) (sink_call K.held K.faults out.old out.new)) result }
+        (source_call S.left S.faults script.old script.new) (sink_call K.held K.faults out.old out.new) steps.old steps.new) result }
 {
-    let map = match load_map(alloc, shelf, dir) {
-        Ok(map) => map,
+    let image = match load_image(alloc, shelf, dir) {
+        Ok(image) => image,
         Err(fault) => return end_loading(alloc, fault, out),
     };
-    let text = match read_script(alloc, script) {
-        Ok(text) => text,
-        Err(ScriptFault::ReadFault) => return Status::ReadFault,
-        Err(ScriptFault::TooLong) => return Status::TooLong,
-        Err(ScriptFault::Memory) => return Status::Memory,
-    };
-    match answer_script(alloc, &map, text.as_slice(), out) {
-        Ok(()) => Status::Done,
-        Err(AnswerFault::WriteFault) => Status::WriteFault,
-        Err(AnswerFault::Memory) => Status::Memory,
-    }
+    let served = open_image(&image, steps);
+    serve_script(alloc, served, script, out, steps)
 }
 
 /// Writes the image of a folder's tables to a file.
@@ -89,21 +83,43 @@ fn build_file<H: Shelf, K: Sink, L: Ledger>(
     out: &mut K,
     steps: &mut Steps<L>,
 ) -> Status
-    ensures promised { (script : SourceCall) → IsIdle script → IsPromised (call_of (Some (Form.Build dir.now file.now))
-        (shelf_call H.files H.misses H.faults H.write_faults shelf.old shelf.new) script (sink_call K.held K.faults out.old out.new)) result }
-    ensures steps { steps.old ≤ steps.new }
+    ensures { (script : SourceCall) → IsIdle script → IsPromised (call_of (Some (Form.Build dir.now file.now))
+        (shelf_call H.files H.misses H.faults H.write_faults shelf.old shelf.new) script (sink_call K.held K.faults out.old out.new) steps.old steps.new) result }
 {
     let image = match load_image(alloc, shelf, dir) {
         Ok(image) => image,
         Err(why) => return end_loading(alloc, why, out),
     };
-    let line = match line_of_file(alloc, "built", &image, steps) {
+    let served = open_image(&image, steps);
+    let line = match line_of_counts(alloc, "built", &served) {
         Ok(line) => line,
         Err(_) => return Status::Memory,
     };
     match write_file(shelf, file, &image) {
         Ok(()) => tell(out, &line, Status::Done),
         Err(Failed) => Status::WriteFault,
+    }
+}
+
+/// Answers the script from a file.
+fn query_file<H: Shelf, S: Source, K: Sink, L: Ledger>(
+    alloc: Global,
+    file: &str,
+    shelf: &mut H,
+    script: &mut S,
+    out: &mut K,
+    steps: &mut Steps<L>,
+) -> Status
+    ensures { IsPromised (call_of (Some (Form.Query file.now)) (shelf_call H.files H.misses H.faults H.write_faults shelf.old shelf.new)
+        (source_call S.left S.faults script.old script.new) (sink_call K.held K.faults out.old out.new) steps.old steps.new) result }
+{
+    let bytes = match load_file(alloc, shelf, file) {
+        Ok(bytes) => bytes,
+        Err(why) => return end_loading(alloc, why, out),
+    };
+    match open(&bytes, steps) {
+        Ok(served) => serve_script(alloc, served, script, out, steps),
+        Err(why) => end_loading(alloc, LoadFault::Unlawful(why), out),
     }
 }
 
@@ -115,17 +131,42 @@ fn check_file<H: Shelf, K: Sink, L: Ledger>(
     out: &mut K,
     steps: &mut Steps<L>,
 ) -> Status
-    ensures promised { (script : SourceCall) → IsIdle script → IsPromised (call_of (Some (Form.Check file.now))
-        (shelf_call H.files H.misses H.faults H.write_faults shelf.old shelf.new) script (sink_call K.held K.faults out.old out.new)) result }
-    ensures steps { steps.old ≤ steps.new }
+    ensures { (script : SourceCall) → IsIdle script → IsPromised (call_of (Some (Form.Check file.now))
+        (shelf_call H.files H.misses H.faults H.write_faults shelf.old shelf.new) script (sink_call K.held K.faults out.old out.new) steps.old steps.new) result }
 {
-    match load_lawful_line(alloc, shelf, file, steps) {
+    let bytes = match load_file(alloc, shelf, file) {
+        Ok(bytes) => bytes,
+        Err(why) => return end_loading(alloc, why, out),
+    };
+    let served = match open(&bytes, steps) {
+        Ok(served) => served,
+        Err(why) => return end_loading(alloc, LoadFault::Unlawful(why), out),
+    };
+    match line_of_counts(alloc, "lawful", &served) {
         Ok(line) => tell(out, &line, Status::Done),
-        Err(fault) => end_loading(alloc, fault, out),
+        Err(_) => Status::Memory,
     }
 }
 
-/// Does what the words ask, and ends with the status that says how it went. What is read of an image is counted.
+/// Tells the sums of the walks over a grid.
+fn trial<K: Sink, L: Ledger>(alloc: Global, size: u32, out: &mut K, steps: &mut Steps<L>) -> Status
+    requires some { 1 ≤ size }
+    requires size { size ≤ 1000 }
+    ensures { (shelf : ShelfCall) (script : SourceCall) → IsUntouched shelf → IsIdle script
+        → IsPromised (call_of (Some (Form.Trial size)) shelf script (sink_call K.held K.faults out.old out.new) steps.old steps.new) result }
+{
+    let image = match grid_image(alloc, size) {
+        Ok(image) => image,
+        Err(why) => return end_loading(alloc, why, out),
+    };
+    let served = open_image(&image, steps);
+    match trial_lines(alloc, size, served, steps) {
+        Ok(text) => tell(out, &text, Status::Done),
+        Err(_) => Status::Memory,
+    }
+}
+
+/// Does what the words ask, and ends with the status that says how it went. What is read of a file or an image is counted.
 pub fn run<H: Shelf, S: Source, K: Sink, L: Ledger>(
     alloc: Global,
     words: &[String],
@@ -134,14 +175,15 @@ pub fn run<H: Shelf, S: Source, K: Sink, L: Ledger>(
     out: &mut K,
     steps: &mut Steps<L>,
 ) -> Status
-    ensures promised { IsPromised (call_of (form (map string_bytes words.now)) (shelf_call H.files H.misses H.faults H.write_faults shelf.old shelf.new)
-        (source_call S.left S.faults script.old script.new) (sink_call K.held K.faults out.old out.new)) result }
-    ensures steps { steps.old ≤ steps.new }
+    ensures { IsPromised (call_of (form (map string_bytes words.now)) (shelf_call H.files H.misses H.faults H.write_faults shelf.old shelf.new)
+        (source_call S.left S.faults script.old script.new) (sink_call K.held K.faults out.old out.new) steps.old steps.new) result }
 {
     match command_of(words) {
-        Some(Command::Ask { dir }) => ask(alloc, dir, shelf, script, out),
+        Some(Command::Ask { dir }) => ask(alloc, dir, shelf, script, out, steps),
         Some(Command::Build { dir, file }) => build_file(alloc, dir, file, shelf, out, steps),
+        Some(Command::Query { file }) => query_file(alloc, file, shelf, script, out, steps),
         Some(Command::Check { file }) => check_file(alloc, file, shelf, out, steps),
+        Some(Command::Trial { size }) => trial(alloc, size, out, steps),
         None => tell(out, b"usage\n", Status::Usage),
     }
 }

@@ -1,5 +1,0 @@
-use Rattle.std.proofs.Common.{rules, append_assoc}
-use Rattle.topo_cli.proofs.opened.line_of_numbers.Goals as goal
-
-pub returns : goal.returns
-returns c = search (rules, append_assoc)

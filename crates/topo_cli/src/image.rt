@@ -1,0 +1,49 @@
+//! Lawful files, opened.
+
+ghost use Rattle.std.specs.Prelude.{◌≡◌, ◌≤◌, ◌<◌, ◌+◌, ◌*◌, IfOk, IsTrue, length};
+ghost use Rattle.scratch_region.specs.Marks.{IsEmpty, room_of};
+ghost use Rattle.plane_model.specs.PlaneMap.{map_of};
+ghost use Rattle.pemb_file.specs.Lawful.{is_lawful, map_of_file};
+ghost use Rattle.pemb_file.specs.Served.{contents_of_view};
+ghost use Rattle.navigate.specs.Bound.{served_map};
+ghost use Rattle.topo_cli.specs.Outcome.{words_to_open};
+
+use bit_words::Steps;
+use pemb_file::{Served, open};
+use scratch_region::{Marks, Region};
+use std::alloc::{AllocError, Global};
+use std::sync::ledger::Ledger;
+
+/// The views of an image that is lawful.
+pub fn open_image<'a, L: Ledger>(image: &'a [u8], steps: &mut Steps<L>) -> Served<'a>
+    requires lawful { IsTrue (is_lawful image.now) }
+    ensures map { served_map result ≡ map_of (map_of_file image.now) }
+    ensures most { steps.new ≤ steps.old + words_to_open (map_of (map_of_file image.now)) }
+    ensures grows { steps.old ≤ steps.new }
+{
+    match open(image, steps) {
+        Ok(served) => served,
+        Err(_) => unreachable!(),
+    }
+}
+
+/// Words with a bit for each face of a file, face 0 among them.
+pub fn words_for_marks(alloc: Global, served: &Served<'_>) -> Result<Vec<u64>, AllocError>
+    ensures room { IfOk result (λ words. length (contents_of_view served.now).faces < 64 * length words.items) }
+    ensures few { IfOk result (λ words. length words.items ≤ 2147483647) }
+{
+    vec![in alloc; 0; served.counts().faces as usize / 64 + 1]
+}
+
+/// All bits of these words as marks.
+pub fn marks_over<'r>(words: &'r mut [u64]) -> Marks<'r>
+    requires few { length words.old ≤ 2147483647 }
+    ensures room { room_of result ≡ 64 * length words.old }
+    ensures empty { IsEmpty result }
+{
+    let all = words.len();
+    match Region::new(words).carve(all) {
+        Ok((marks, _rest)) => marks,
+        Err(_) => unreachable!(),
+    }
+}
