@@ -1,0 +1,14 @@
+pub mod Nesting
+pub mod RegionView
+pub mod Tables
+pub mod Preorder
+pub mod Parts
+pub mod Places
+pub mod Ancestors
+pub mod Checked
+pub mod ByPlace
+pub mod Siblings
+pub mod Walked
+pub mod Numbering
+pub mod MemberPlaces
+pub mod Ready

@@ -1,0 +1,23 @@
+//! Regions that lie in one another, and the faces that are in them: numbered in preorder from the rows of regions and
+//! members, and seen as a view that answers which regions enclose a face.
+#![tactic(auto)]
+
+mod building;
+mod checks;
+mod cycles;
+pub mod laws;
+mod members;
+mod numbering;
+mod parents;
+mod parts;
+mod rows;
+mod siblings;
+mod view;
+mod walk;
+
+pub use building::build;
+pub use parts::{MemberPlace, RegionParts};
+pub use view::RegionView;
+
+#[cfg(test)]
+mod tests;
