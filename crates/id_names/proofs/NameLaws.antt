@@ -1,6 +1,6 @@
 -- Laws of names: what a place without fault says, that names without fault are a bijection, and what a number is found by.
 use Rattle.std.specs.Prelude.{not, nat_le, nat_lt}
-use Rattle.std.proofs.Common.{◌≡◌, ◌≢◌, ℕ, zero, suc, ◌+◌, ◌-◌, ◌<◌, ◌≤◌, Bool, true, false, eqb, List, [], ◌∷◌, length, get_or, refl, ap, sym, ◌∙◌, ◌&&◌, arith, inl, inr, Option, Some, None, cond, nat_cmp, Less, Equal, Greater}
+use Rattle.std.proofs.Common.{◌≡◌, ◌≢◌, ℕ, zero, suc, ◌+◌, ◌-◌, ◌<◌, ◌≤◌, Bool, true, false, eqb, List, [], ◌∷◌, length, get_or, refl, ap, sym, ◌∙◌, subst, ◌&&◌, arith, inl, inr, Option, Some, None, cond, nat_cmp, Less, Equal, Greater}
 use Rattle.std.specs.List.{range_with_len, list_any, IsDistinct, AllByRecursion}
 use Rattle.std.proofs.lemmas.Bool.{cases_lt, cases_order, cases_Bool, or_cases, or_parts, and_parts, and_from, ltb-true, leb-true, eqb-true, eqb-false, lt-ltb, le-leb, eq-eqb, ne_eqb, cond-true, cond-false, not-false, false_from_ne_true}
 use Rattle.std.proofs.lemmas.Bool.Decides.{nat_tests}
@@ -167,6 +167,31 @@ module _ (ids order : List ℕ) (same : length order ≡ length ids) (right : na
     | inl l ↦ omega (arith, below k l)
     | inr l ↦ omega (arith, above k l h)
   ])
+
+  -- ids rise by 1 at least from place to place
+  pub spread : (i d : ℕ) → i + d < length ids → id_at ids order i + d ≤ id_at ids order (i + d)
+  spread i zero l = let e : id_at ids order (i + 0) ≡ id_at ids order i = let z : i + 0 ≡ i = omega arith in ap (λ k. id_at ids order k) z in omega (arith, e)
+  spread i (suc d) l =
+      let less = spread i d (omega (arith, l)) in
+      let more = rising (i + d) (i + suc d) (omega arith) l in
+      omega (arith, less, more)
+
+  -- an id before a place that it is too far below, and from a place on that is as great as it
+  pub far_before : (id k : ℕ) → k < length ids → k < length ids - 1 - (id_at ids order (length ids - 1) - id) → id ≤ id_at ids order (length ids - 1) → id_at ids order k < id
+  far_before id k h l few =
+      let d = length ids - 1 - k in
+      let at : k + d ≡ length ids - 1 = omega (arith, h) in
+      let far = spread k d (omega (arith, h)) in
+      let far' : id_at ids order k + d ≤ id_at ids order (length ids - 1) = subst (λ j. id_at ids order k + d ≤ id_at ids order j) at far in
+      omega (arith, far', l, few, h)
+
+  pub from_own : (id k : ℕ) → k < length ids → id ≤ k → id < id_at ids order k
+  from_own id k h l =
+      let first = named 0 (omega (arith, h)) in
+      let far = spread 0 k (omega (arith, h)) in
+      let e : 0 + k ≡ k = omega arith in
+      let far' : id_at ids order 0 + k ≤ id_at ids order k = subst (λ j. id_at ids order 0 + k ≤ id_at ids order j) e far in
+      omega (arith, far', first.least, l)
 
   pub not_later : (id high : ℕ) → id < id_at ids order high → high < length order → (k : ℕ) → high ≤ k → k < length order → id < id_at ids order k
   not_later id high l h k a b = elim (cases_lt high k) [

@@ -22,7 +22,7 @@ impl<'a> NamesView<'a> {
     ghost use Rattle.bit_words.specs.PackedView.{fields_of};
     ghost use Rattle.bit_words.specs.Digits.{digits};
     ghost use Rattle.id_names.specs.Names.{AreDistinctIds, name_fault, number_of};
-    ghost use Rattle.id_names.specs.NamesView.{ids_of};
+    ghost use Rattle.id_names.specs.NamesView.{ids_of, IsWithin};
 
     /// The ids by number, with the numbers rising by id, which `make` makes and `check` finds right.
     pub fn new(ids: PackedView<'a>, order: PackedView<'a>) -> NamesView<'a>
@@ -55,6 +55,26 @@ impl<'a> NamesView<'a> {
         self.ids.field(number, steps) as IdNumber
     }
 
+    /// The first place that an id can stand at, and the first behind all of these: ids rise by 1 at least from place to
+    /// place, so where few are left out few places are in question.
+    fn places_of<C: Ledger>(&self, id: IdNumber, steps: &mut Steps<C>) -> (usize, usize)
+        ensures within { IsWithin self.now id result.0 result.1 }
+        ensures grows { steps.old ≤ steps.new }
+        ensures cost { steps.new ≤ steps.old + 4 }
+    {
+        let count = self.order.count();
+        if count == 0 {
+            return (0, 0);
+        }
+        let number = self.order.field(count - 1, steps) as usize;
+        let last = self.id_of(number, steps);
+        if last < id {
+            return (count, count);
+        }
+        let low = (count - 1).saturating_sub((last - id) as usize);
+        (low, count.min(id as usize))
+    }
+
     /// The number that has this id, or None where no number has it.
     pub fn number_of<C: Ledger>(&self, id: IdNumber, steps: &mut Steps<C>) -> Option<usize>
         ensures number { result ≡ number_of (ids_of self.now) id }
@@ -62,8 +82,7 @@ impl<'a> NamesView<'a> {
         ensures grows { steps.old ≤ steps.new }
         ensures cost { steps.new ≤ steps.old + 4 * digits (length (ids_of self.now) + 2) + 6 }
     {
-        let mut low = 0;
-        let mut high = self.order.count();
+        let (mut low, mut high) = self.places_of(id, steps);
         while low < high {
             let middle = low + (high - low) / 2;
             let number = self.order.field(middle, steps) as usize;

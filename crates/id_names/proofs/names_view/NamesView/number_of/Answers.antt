@@ -5,6 +5,19 @@ use Rattle.id_names.specs.Names.{id_at}
 use Rattle.id_names.proofs.NameLaws.{named, right_names, number_of-at, number_of-none, nowhere, not_later, not_earlier, less_is, equal_is, greater_is}
 use Rattle.id_names.proofs.names_view.NamesView.number_of.Goals as goal
 
+pub loop-low-init : goal.loop-low-init
+loop-low-init g c =
+    let w = c.places_of-low.ensures.within in
+    let n = length (fields_of c.args.self.now.ids) in
+    record {
+      order = w.order;
+      within = w.count;
+      below = w.below;
+      above = w.above;
+      grows = omega arith;
+      steps = omega (arith, digits-mono (c.places_of-low.result.1 - c.places_of-low.result.0) n (omega (arith, w.order, w.count)));
+    }
+
 pub id_of-requires : goal.id_of-requires
 id_of-requires g c =
     let v = c.args.self.now in
