@@ -22,7 +22,7 @@ head_cost c =
     omega (arith, m, n)
 
 pub whole_cost : (c : HeaderCounts) → count_fault c ≡ None
-    → 7 + (2 * c.edges * (10 * digits (2 * c.edges + 2) + 139) + c.components * (48 * digits (2 * c.edges + 2) + 379) + c.isolated * 8 + 50 * c.edges + 4 * c.isolated + 205) ≤ 1024 * digits (file_size c) * (file_size c + 2)
+    → 7 + (2 * c.edges * (10 * digits (2 * c.edges + 2) + 139) + c.components * (48 * digits (2 * c.edges + 2) + 379) + c.isolated * 8 + 50 * c.edges + 4 * c.isolated + 16 * c.regions + 205) ≤ 1024 * digits (file_size c) * (file_size c + 2)
 whole_cost c h =
     let k = counts_fit c h in
     let m = c.edges in
@@ -35,4 +35,5 @@ whole_cost c h =
     let b : c.components * l ≤ m * l = mul-le-mul_right l k.components in
     let e : m * 2 ≤ m * d = mul-le-mul_left m two in
     let f : i * 2 ≤ i * d = mul-le-mul_left i two in
-    omega (arith, a, b, e, f, two, k)
+    let g : c.regions * 2 ≤ c.regions * d = mul-le-mul_left c.regions two in
+    omega (arith, a, b, e, f, g, two, k)

@@ -32,10 +32,10 @@ pub count-9 : (c : HeaderCounts) → c.edges ≤ most → c.tree_edges ≤ c.edg
 unfolding count_fault first_some
 count-9 c a b d e = rw (within _ _ a, within _ _ b, d, above _ _ e) refl
 
-pub count-10 : (c : HeaderCounts) → c.edges ≤ most → c.tree_edges ≤ c.edges → fit c ≡ true → node_count c ≤ most → 0 < c.regions → count_fault c ≡ Some (fault.Count 10 c.regions)
+pub count-10 : (c : HeaderCounts) → c.edges ≤ most → c.tree_edges ≤ c.edges → fit c ≡ true → node_count c ≤ most → most < c.regions → count_fault c ≡ Some (fault.Count 10 c.regions)
 unfolding count_fault first_some
 count-10 c a b d e f = rw (within _ _ a, within _ _ b, d, within _ _ e, above _ _ f) refl
 
-pub no_count : (c : HeaderCounts) → c.edges ≤ most → c.tree_edges ≤ c.edges → fit c ≡ true → node_count c ≤ most → c.regions ≤ 0 → count_fault c ≡ None
+pub no_count : (c : HeaderCounts) → c.edges ≤ most → c.tree_edges ≤ c.edges → fit c ≡ true → node_count c ≤ most → c.regions ≤ most → count_fault c ≡ None
 unfolding count_fault first_some
 no_count c a b d e f = rw (within _ _ a, within _ _ b, d, within _ _ e, within _ _ f) refl

@@ -1,13 +1,12 @@
 -- The map of whole contents has as many nodes, edges, faces and components as the contents.
-use Rattle.std.specs.Prelude.{ℤ, map, filter, not, nat_lt, unwrap_or, slice_index}
-use Rattle.std.specs.List.{range_with_len, list_all}
-use Rattle.std.proofs.Common.{◌≡◌, ℕ, ◌+◌, ◌<◌, ◌≤◌, ◌==◌, Bool, true, false, List, [], ◌∷◌, length, refl, ap, sym, ◌∙◌, arith, subst}
+use Rattle.std.specs.Prelude.{map, filter, not, unwrap_or}
+use Rattle.std.proofs.Common.{◌≡◌, ℕ, ◌==◌, Bool, true, List, [], ◌∷◌, length, refl, ap, sym, ◌∙◌, arith}
 use Rattle.std.proofs.lemmas.Bool.{or_left, or_right, eq-eqb, ne_eqb}
 use Rattle.std.proofs.lemmas.List.FromFn.{length-map-range_with_len}
 use Rattle.orbits.proofs.Lists.{same_length}
 use Rattle.plane_model.specs.declared.rows.NodeRow.{NodeRow}
 use Rattle.plane_model.specs.declared.rows.FaceRow.{FaceRow}
-use Rattle.plane_model.specs.Sets.{rising, has, has_edge}
+use Rattle.plane_model.specs.Sets.{rising, has}
 use Rattle.plane_model.specs.PlaneMap.{PlaneMap, map_of}
 use Rattle.plane_model.specs.Component.{components}
 use Rattle.plane_model.specs.Faces.{outer_rings}

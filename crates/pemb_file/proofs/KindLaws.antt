@@ -90,7 +90,7 @@ few' c k =
     let b = k.tree in
     let d = k.components in
     let e = k.nodes in
-    let f : c.regions ≤ 0 = k.regions in
+    let f = k.regions in
     let t1 = tree-le (2 * c.tree_edges) in
     let t2 = tree-le (2 * face_count c) in
     let t3 = tree-le (2 * c.regions) in
@@ -106,7 +106,7 @@ names-few' c k =
     let b = k.tree in
     let d = k.components in
     let e = k.nodes in
-    let f : c.regions ≤ 0 = k.regions in
+    let f = k.regions in
     each (λ n. is_named n ≡ true → (section c n).count ≤ 16777216) (λ h. cc) (λ h. cc) (λ h. cc) (λ h. cc) (λ h. cc) (λ h. cc) (λ h. cc) (λ h. cc) (λ h. cc) (λ h. cc) (λ h. omega arith) (λ h. cc) (λ h. omega arith) (λ h. cc) (λ h. omega arith) (λ h. cc) (λ h. cc) (λ h. cc) (λ h. cc) (λ h. cc) (λ h. cc) (λ h. cc) (λ h. omega arith) (λ h. cc) (λ h. cc)
 
 pub names-few : (c : HeaderCounts) (n : ℕ) → count_fault c ≡ None → is_named n ≡ true → (section c n).count ≤ 16777216

@@ -7,6 +7,7 @@ pub mod Lists
 pub mod Whole
 pub mod Fits
 pub mod Regions
+pub mod RegionNumbers
 pub mod InRange
 pub mod Orbits
 pub mod Rotation

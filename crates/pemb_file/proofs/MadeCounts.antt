@@ -39,7 +39,7 @@ pub record Many (c : Contents) : Type 0 where
   pub few_tree : tree_edges c.code ≤ length c.edges
   pub few_edges : length c.edges ≤ 16777216
   pub few_nodes : length c.nodes ≤ 16777216
-  pub few_regions : length c.regions ≤ 0
+  pub few_regions : length c.regions ≤ 16777216
 
 sizes_of : (c : Contents) → IsTrue (is_whole c) → has_sizes c ≡ true
 unfolding is_whole

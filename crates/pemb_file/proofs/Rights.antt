@@ -1,24 +1,22 @@
 -- Without fault, counts and trees are right, and the code's parentheses are balanced.
 use Rattle.std.specs.Prelude.{not, find, slice_index, option_map}
-use Rattle.std.proofs.Common.{◌≡◌, ℕ, ◌+◌, ◌-◌, ◌<◌, Bool, true, false, List, length, drop, length-drop, refl, ap, sym, ◌∙◌, arith, None, ◌==◌}
+use Rattle.std.proofs.Common.{◌≡◌, ℕ, ◌+◌, ◌-◌, true, false, List, length, drop, length-drop, refl, ap, sym, ◌∙◌, arith, None, ◌==◌}
 use Rattle.std.specs.List.{range_with_len}
-use Rattle.std.proofs.lemmas.Bool.{eqb-true, eq-eqb, not-false, le-ltb}
-use Rattle.std.proofs.lemmas.Int.{ints}
+use Rattle.std.proofs.lemmas.Bool.{eqb-true, not-false}
 use Rattle.std.proofs.lemmas.List.{length-take-le}
 use Rattle.std.proofs.lemmas.Grind.{same_number_lists}
-use Rattle.bit_words.specs.Bits.{rank, excess}
 use Rattle.bit_words.specs.WrongEntry.{wrong_entry, first_wrong}
 use Rattle.bit_words.specs.declared.wrong_entry.WrongEntry.{WrongEntry}
-use Rattle.bit_words.proofs.Ranks.{rank-zero}
-use Rattle.bit_words.proofs.Finds.{find-none, none-find}
+use Rattle.bit_words.proofs.Finds.{none-find}
 use Rattle.rank_select.specs.Counts.{blocks, counts_of}
 use Rattle.rank_select.proofs.CountLaws.{length-counts_of}
 use Rattle.min_max_tree.specs.Tree.{nodes_of, tree_size}
 use Rattle.min_max_tree.proofs.Sizes.{nodes-length}
-use Rattle.parens.specs.Matching.{closes_more, balance_fault, is_balanced}
-use Rattle.parens.proofs.Balances.{IsBalanced, balanced-none}
+use Rattle.parens.specs.Matching.{balance_fault}
+use Rattle.parens.proofs.Balances.{balanced-none}
 use Rattle.code_laws.specs.SeqFault.{is_sound}
 use Rattle.code_laws.proofs.Sound.{sound_parts, whole}
+use Rattle.region_tree.proofs.Stacks.{balanced_all}
 use Rattle.pemb_file.specs.Layout.{counts_in, section, section_from, section_words, file_words, bits_at, fields_at, part}
 use Rattle.pemb_file.specs.Contents.{contents_of}
 use Rattle.pemb_file.specs.Kinds.{is_directory, is_tree}
@@ -62,26 +60,6 @@ tree_right words n size kind h =
     let same : length (part words n) ≡ length (nodes_of (bits_at words (n - 2))) =
     length-part words n size ∙ tree-words c n kind ∙ ap tree_size (sym b) ∙ sym (nodes-length (bits_at words (n - 2))) in
     none_wrong (nodes_of (bits_at words (n - 2))) (part words n) same h
-
-even : (bits : List Bool) → IsBalanced bits → rank true bits (length bits) + rank false bits 0 ≡ rank false bits (length bits) + rank true bits 0
-unfolding excess
-even bits b = let e = b.end in let t = rank-zero true bits in let f = rank-zero false bits in omega (arith, ints, e, t, f)
-
-closes-no-more : (bits : List Bool) → IsBalanced bits → (q : ℕ) → q < length bits → closes_more bits 0 q ≡ false
-unfolding excess
-closes-no-more bits b q l =
-    let e = b.low (q + 1) (omega arith) in
-    let t = rank-zero true bits in
-    let f = rank-zero false bits in
-    le-ltb (rank true bits (q + 1) + rank false bits 0) (rank false bits (q + 1) + rank true bits 0) (omega (arith, ints, e, t, f))
-
-pub balanced_all : (bits : List Bool) → IsBalanced bits → is_balanced bits 0 (length bits) ≡ true
-unfolding balance_fault
-balanced_all bits b =
-    let n = length bits in
-    let none : find (closes_more bits 0) (range_with_len 0 (n - 0)) ≡ None = find-none (closes_more bits 0) 0 (n - 0) (λ q x y. closes-no-more bits b q (omega arith)) in
-    let fine = eq-eqb _ _ (even bits b) in
-    rw (none, fine) refl
 
 -- the counts and trees of the code
 pub record Rights (words : List ℕ) : Type 0 where

@@ -7,6 +7,7 @@ use Rattle.turan_code.specs.TuranView.{code_of_view}
 use Rattle.id_names.specs.NamesView.{ids_of}
 use Rattle.pemb_file.specs.Contents.{Contents, component_count, contents_with}
 use Rattle.code_laws.specs.Numbers.{tree_edges}
+use Rattle.region_tree.specs.RegionView.{Regions}
 use Rattle.plane_model.specs.PlaneMap.{PlaneMap}
 use Rattle.plane_model.specs.Component.{components}
 use Rattle.pemb_file.specs.declared.counts.Counts.{Counts}
@@ -17,6 +18,10 @@ abbrev pub contents_of_view : Served → Contents
 contents_of_view s =
     contents_with (code_of_view s.code) (bits_of s.forward) (ids_of s.nodes) (ids_of s.edges) (ids_of s.faces) (ids_of s.regions)
     (fields_of s.places) (fields_of s.place_order) (fields_of s.isolated) (parens_of s.region_tree) (fields_of s.members)
+
+-- the regions of these contents, by number
+abbrev pub regions_in : Contents → Regions
+regions_in c = record { bits = c.region_bits; ids = c.regions; members = c.members }
 
 -- the counts of these contents
 pub record AreCounts (c : Contents) (counts : Counts) : Type 0 where

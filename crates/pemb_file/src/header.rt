@@ -149,7 +149,7 @@ fn check_counts(header: Header) -> Result<(), FileFault>
             found: header.isolated,
         });
     }
-    if header.regions > 0 {
+    if header.regions > MOST {
         return Err(FileFault::Count {
             word: 10,
             found: header.regions,

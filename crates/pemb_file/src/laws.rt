@@ -1,6 +1,6 @@
 //! What the definitions of files and of their maps say, each law the contract of a function that does nothing.
 
-ghost use Rattle.std.specs.Prelude.{◌≡◌, ◌*◌, ◌+◌, ◌≤◌, ◌<◌, ◌==◌, true, false, ℕ, ℤ, List, Some, map, length, filter, IsTrue};
+ghost use Rattle.std.specs.Prelude.{◌≡◌, ◌*◌, ◌+◌, ◌≤◌, ◌<◌, ◌==◌, true, false, ℕ, ℤ, List, Some, map, length, filter, option_map, slice_index, IsTrue};
 ghost use Rattle.plane_model.specs.PlaneMap.{map_of, ring, round};
 ghost use Rattle.plane_model.specs.Sets.{has_edge};
 ghost use Rattle.plane_model.specs.Rotation.{is_rotation_system};
@@ -13,7 +13,9 @@ ghost use Rattle.code_laws.specs.Code.{component_of, start_of};
 ghost use Rattle.code_laws.specs.Orbits.{orbit};
 ghost use Rattle.pemb_file.specs.Layout.{HeaderCounts, counts_in, words_of, header_words, file_words, section, section_from, section_words, sections, total_words, is_code_section};
 ghost use Rattle.pemb_file.specs.Contents.{Contents, contents_of};
-ghost use Rattle.pemb_file.specs.MapOfFile.{signed_at, rows_of_contents};
+ghost use Rattle.region_tree.specs.Nesting.{region_at};
+ghost use Rattle.region_tree.specs.Numbering.{AreNumbered};
+ghost use Rattle.pemb_file.specs.MapOfFile.{signed_at, face_at_place, rows_of_contents};
 ghost use Rattle.pemb_file.specs.Lawful.{is_lawful, is_whole, map_of_file, file_size};
 ghost use Rattle.pemb_file.specs.Agreement.{Agrees, starts_of};
 ghost use Rattle.pemb_file.specs.Served.{HasCounts};
@@ -74,4 +76,11 @@ pub fn parts_by_position()
 /// The map of whole contents has as many nodes, edges, faces other than 0, components and regions as they have.
 pub fn whole_counts()
     ensures { (c : Contents) → IsTrue (is_whole c) → HasCounts c (map_of (rows_of_contents c)) }
+{}
+
+/// The regions of whole contents give the regions and members of their map back: each region has one number and its
+/// parent is the region of the innermost pair round it, and the face at a place is in the region that stands there.
+pub fn regions_by_number()
+    ensures numbered { (c : Contents) → IsTrue (is_whole c) → AreNumbered (map_of (rows_of_contents c)) c.region_bits c.regions }
+    ensures members { (c : Contents) → IsTrue (is_whole c) → (place : ℕ) → place ≤ length c.faces → (map_of (rows_of_contents c)).members.at (face_at_place c place) ≡ option_map (slice_index c.regions) (region_at c.members place) }
 {}

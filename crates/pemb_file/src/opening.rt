@@ -119,7 +119,7 @@ fn content<'a, C: Ledger>(image: &Image<'a>, steps: &mut Steps<C>) -> Result<Ser
     ensures fault { Finds (content_fault (view_words image.now.words)) result }
     ensures contents { IfOk result (λ s. contents_of_view s ≡ contents_of (view_words image.now.words)) }
     ensures grows { steps.old ≤ steps.new }
-    ensures cost { steps.new ≤ steps.old + 2 * (counts_in (view_words image.now.words)).edges * (10 * digits (2 * (counts_in (view_words image.now.words)).edges + 2) + 139) + (counts_in (view_words image.now.words)).components * (48 * digits (2 * (counts_in (view_words image.now.words)).edges + 2) + 379) + (counts_in (view_words image.now.words)).isolated * 8 + 50 * (counts_in (view_words image.now.words)).edges + 4 * (counts_in (view_words image.now.words)).isolated + 205 }
+    ensures cost { steps.new ≤ steps.old + 2 * (counts_in (view_words image.now.words)).edges * (10 * digits (2 * (counts_in (view_words image.now.words)).edges + 2) + 139) + (counts_in (view_words image.now.words)).components * (48 * digits (2 * (counts_in (view_words image.now.words)).edges + 2) + 379) + (counts_in (view_words image.now.words)).isolated * 8 + 50 * (counts_in (view_words image.now.words)).edges + 4 * (counts_in (view_words image.now.words)).isolated + 16 * (counts_in (view_words image.now.words)).regions + 205 }
 {
     image.check_code(steps)?;
     image.check_directories(steps)?;

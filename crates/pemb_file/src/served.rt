@@ -13,6 +13,7 @@ use crate::counts::Counts;
 use bit_words::{BitView, PackedView, Steps};
 use id_names::NamesView;
 use parens::ParenView;
+use region_tree::RegionView;
 use std::sync::ledger::Ledger;
 use turan_code::TuranView;
 
@@ -43,7 +44,8 @@ impl<'a> Served<'a> {
     ghost use Rattle.parens.specs.ParenView.{parens_of};
     ghost use Rattle.pemb_file.specs.Contents.{contents_with};
     ghost use Rattle.pemb_file.specs.Lawful.{is_whole};
-    ghost use Rattle.pemb_file.specs.Served.{contents_of_view, AreCounts};
+    ghost use Rattle.region_tree.specs.RegionView.{regions_of};
+    ghost use Rattle.pemb_file.specs.Served.{contents_of_view, regions_in, AreCounts};
 
     /// These views, whose contents are whole.
     pub(crate) fn new(
@@ -160,5 +162,12 @@ impl<'a> Served<'a> {
         ensures few_steps { steps.new ≤ steps.old + 2 }
     {
         self.isolated.field(j, steps) as u32
+    }
+
+    /// The regions, and for face 0 and each face by number the one that it is in. No word is read.
+    pub fn regions(&self) -> RegionView<'a>
+        ensures { regions_of result ≡ regions_in (contents_of_view self.now) }
+    {
+        RegionView::new(self.region_tree, self.regions, self.members)
     }
 }

@@ -8,7 +8,7 @@ ghost use Rattle.pemb_file.specs.Layout.{counts_in, words_of, file_words};
 ghost use Rattle.pemb_file.specs.Contents.{contents_of};
 ghost use Rattle.pemb_file.specs.MapOfFile.{rows_of_contents};
 ghost use Rattle.pemb_file.specs.Faults.{front_fault, count_fault};
-ghost use Rattle.pemb_file.specs.Lawful.{content_fault, map_of_file, first_fault, is_lawful, is_whole, all_of, whole_tests};
+ghost use Rattle.pemb_file.specs.Lawful.{content_fault, map_of_file, first_fault, is_lawful, is_whole};
 ghost use Rattle.pemb_file.specs.declared.fault.FileFault.TheVariants as fault;
 ghost use Rattle.pemb_file.specs.Image.{bytes_of, image_of};
 ghost use Rattle.pemb_file.specs.Worked.{two, tri, tri_rows, with_word, digest_words, sealed, empty, isle, isle_with, isle_rows, plain, plain_with, plain_rows};
@@ -27,14 +27,14 @@ pub fn triangle_file()
     ensures turned_consistent { is_consistent (map_of_file (sealed (with_word 20 1))) ≡ true }
 {}
 
-/// The file of a triangle with a closed edge and a node inside it: lawful without regions, and read with them.
+/// The file of a triangle with a closed edge and a node inside it, with regions and without them.
 pub fn island_file()
-    ensures isle_whole { all_of (drop 1 (whole_tests (contents_of isle))) ≡ true }
     ensures isle_map { map_of_file (sealed isle) ≡ isle_rows }
     ensures isle_consistent { is_consistent (map_of_file (sealed isle)) ≡ true }
     ensures isle_range { is_in_range (map_of_file (sealed isle)) ≡ true }
     ensures isle_contents { content_fault isle ≡ None }
-    ensures isle_fault { first_fault (sealed isle) ≡ Some (fault.Count 10 2) }
+    ensures isle_lawful { is_lawful (sealed isle) ≡ true }
+    ensures isle_image { image_of (contents_of isle) ≡ sealed isle }
     ensures plain_lawful { is_lawful (sealed plain) ≡ true }
     ensures plain_image { image_of (contents_of plain) ≡ sealed plain }
     ensures plain_map { map_of_file (sealed plain) ≡ plain_rows }
@@ -64,7 +64,8 @@ pub fn cut_files()
     ensures old_digest { first_fault (bytes_of (take 2 (with_word 13 6) ++ digest_words tri ++ drop 6 (with_word 13 6))) ≡ Some (fault.Digest 0) }
     ensures many_components { count_fault (record { edges = 3; tree_edges = 2; components = 0; isolated = 0; regions = 0 }) ≡ Some (fault.Count 8 0) }
     ensures many_nodes { count_fault (record { edges = 3; tree_edges = 2; components = 1; isolated = 16777214; regions = 0 }) ≡ Some (fault.Count 9 16777214) }
-    ensures some_regions { count_fault (record { edges = 3; tree_edges = 2; components = 1; isolated = 0; regions = 1 }) ≡ Some (fault.Count 10 1) }
+    ensures as_many_regions { count_fault (record { edges = 3; tree_edges = 2; components = 1; isolated = 0; regions = 16777216 }) ≡ None }
+    ensures many_regions { count_fault (record { edges = 3; tree_edges = 2; components = 1; isolated = 0; regions = 16777217 }) ≡ Some (fault.Count 10 16777217) }
     ensures many_edges { count_fault (record { edges = 16777217; tree_edges = 2; components = 1; isolated = 0; regions = 0 }) ≡ Some (fault.Count 6 16777217) }
     ensures many_tree_edges { count_fault (record { edges = 3; tree_edges = 4; components = 1; isolated = 0; regions = 0 }) ≡ Some (fault.Count 7 4) }
 {}

@@ -24,7 +24,8 @@ pub fn chains_by_number()
     ensures common { (m : PlaneMap) (bits : List Bool) (ids : List ℕ) (x y : ℕ) → AreNumbered m bits ids → x < length ids → y < length ids → find (has (upward (length m.regions.keys) m (Some (slice_index ids y)))) (upward (length m.regions.keys) m (Some (slice_index ids x))) ≡ option_map (slice_index ids) (common_number bits x y) }
 {}
 
-/// The other tables make no difference to regions and members: neither to what is first wrong with them nor to their numbers.
+/// The other tables make no difference to regions and members: neither to what is first wrong with them nor to their
+/// numbers.
 pub fn other_tables()
     ensures fault { (t : Rows) → region_fault (region_tables t.regions t.members t.faces) ≡ region_fault t }
     ensures forest { (t : Rows) → is_region_forest (region_tables t.regions t.members t.faces) ≡ is_region_forest t }

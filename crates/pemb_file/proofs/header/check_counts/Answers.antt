@@ -15,8 +15,8 @@ returns-then-not-components_fit c = count-8 (counts_of_header c.args.header) (om
 pub returns-then-nodes-from : goal.returns-then-nodes-from
 returns-then-nodes-from c = count-9 (counts_of_header c.args.header) (omega arith) (omega arith) (sym c.components_fit.ensures ∙ c.if-not-components_fit.false) (omega (arith, c.nodes.ensures, c.from.ensures))
 
-pub returns-then-header-gt0 : goal.returns-then-header-gt0
-returns-then-header-gt0 c = count-10 (counts_of_header c.args.header) (omega arith) (omega arith) (sym c.components_fit.ensures ∙ c.if-not-components_fit.false) (omega (arith, c.nodes.ensures, c.from.ensures)) (omega arith)
+pub returns-then-header-gt-MOST-2 : goal.returns-then-header-gt-MOST-2
+returns-then-header-gt-MOST-2 c = count-10 (counts_of_header c.args.header) (omega arith) (omega arith) (sym c.components_fit.ensures ∙ c.if-not-components_fit.false) (omega (arith, c.nodes.ensures, c.from.ensures)) (omega arith)
 
 pub returns : goal.returns
 returns c = no_count (counts_of_header c.args.header) (omega arith) (omega arith) (sym c.components_fit.ensures ∙ c.if-not-components_fit.false) (omega (arith, c.nodes.ensures, c.from.ensures)) (omega arith)

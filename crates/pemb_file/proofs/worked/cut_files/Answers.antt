@@ -20,7 +20,8 @@ use Rattle.plane_model.specs.Regions.{upward}
 use Rattle.pemb_file.specs.Image.{bytes_of}
 use Rattle.pemb_file.specs.Layout.{words_of, sections, section_words, total_words, file_words, words_before, section, section_from, part, bits_at, fields_at}
 use Rattle.pemb_file.specs.Contents.{contents_of}
-use Rattle.pemb_file.specs.MapOfFile.{signed_at, node_at, face_at, forward_position, parent_number}
+use Rattle.region_tree.specs.Nesting.{parent_number}
+use Rattle.pemb_file.specs.MapOfFile.{signed_at, node_at, face_at, forward_position}
 use Rattle.pemb_file.specs.Faults.{front_fault, count_fault, digest_fault, directories_fault, all_names_fault, place_fault, order_fault, isolated_fault, places_fault, start_fault, member_fault, regions_fault, padding_from, padding_fault}
 use Rattle.pemb_file.specs.Lawful.{content_fault, map_of_file, first_fault, is_whole, has_sizes}
 use Rattle.pemb_file.proofs.worked.cut_files.Goals as goal
@@ -73,9 +74,13 @@ pub returns-clause-many_nodes : goal.returns-clause-many_nodes
 unfolding bytes_of rank select excess tabulate is_set word_bits bit_of bits_in stream field_at fields_in words_in first_wrong counts_of span_at size_at start_at least total_of least_of node levels nodes_of sizes_from tree_size close_of open_of mate_of pair_number falling innermost balance_fault is_first mate component_of after before edge_of pair_round node_of ring_of first_of_edge first_of_node first_of_shell first_some seq_fault number_of name_fault is_names is_whole has_sizes put rising words_of sections section_words total_words file_words words_before section section_from part bits_at fields_at contents_of signed_at node_at face_at forward_position parent_number front_fault count_fault directories_fault all_names_fault place_fault order_fault isolated_fault places_fault start_fault member_fault regions_fault padding_from padding_fault content_fault map_of_file first_fault digest_fault first_words schedule rounds compress hash_after digest_bytes sha256 signed_edges walks.until_return sets.grown_by reached_through upward smallest
 returns-clause-many_nodes c = refl
 
-pub returns-clause-some_regions : goal.returns-clause-some_regions
+pub returns-clause-as_many_regions : goal.returns-clause-as_many_regions
 unfolding bytes_of rank select excess tabulate is_set word_bits bit_of bits_in stream field_at fields_in words_in first_wrong counts_of span_at size_at start_at least total_of least_of node levels nodes_of sizes_from tree_size close_of open_of mate_of pair_number falling innermost balance_fault is_first mate component_of after before edge_of pair_round node_of ring_of first_of_edge first_of_node first_of_shell first_some seq_fault number_of name_fault is_names is_whole has_sizes put rising words_of sections section_words total_words file_words words_before section section_from part bits_at fields_at contents_of signed_at node_at face_at forward_position parent_number front_fault count_fault directories_fault all_names_fault place_fault order_fault isolated_fault places_fault start_fault member_fault regions_fault padding_from padding_fault content_fault map_of_file first_fault digest_fault first_words schedule rounds compress hash_after digest_bytes sha256 signed_edges walks.until_return sets.grown_by reached_through upward smallest
-returns-clause-some_regions c = refl
+returns-clause-as_many_regions c = refl
+
+pub returns-clause-many_regions : goal.returns-clause-many_regions
+unfolding bytes_of rank select excess tabulate is_set word_bits bit_of bits_in stream field_at fields_in words_in first_wrong counts_of span_at size_at start_at least total_of least_of node levels nodes_of sizes_from tree_size close_of open_of mate_of pair_number falling innermost balance_fault is_first mate component_of after before edge_of pair_round node_of ring_of first_of_edge first_of_node first_of_shell first_some seq_fault number_of name_fault is_names is_whole has_sizes put rising words_of sections section_words total_words file_words words_before section section_from part bits_at fields_at contents_of signed_at node_at face_at forward_position parent_number front_fault count_fault directories_fault all_names_fault place_fault order_fault isolated_fault places_fault start_fault member_fault regions_fault padding_from padding_fault content_fault map_of_file first_fault digest_fault first_words schedule rounds compress hash_after digest_bytes sha256 signed_edges walks.until_return sets.grown_by reached_through upward smallest
+returns-clause-many_regions c = refl
 
 pub returns-clause-many_edges : goal.returns-clause-many_edges
 unfolding bytes_of rank select excess tabulate is_set word_bits bit_of bits_in stream field_at fields_in words_in first_wrong counts_of span_at size_at start_at least total_of least_of node levels nodes_of sizes_from tree_size close_of open_of mate_of pair_number falling innermost balance_fault is_first mate component_of after before edge_of pair_round node_of ring_of first_of_edge first_of_node first_of_shell first_some seq_fault number_of name_fault is_names is_whole has_sizes put rising words_of sections section_words total_words file_words words_before section section_from part bits_at fields_at contents_of signed_at node_at face_at forward_position parent_number front_fault count_fault directories_fault all_names_fault place_fault order_fault isolated_fault places_fault start_fault member_fault regions_fault padding_from padding_fault content_fault map_of_file first_fault digest_fault first_words schedule rounds compress hash_after digest_bytes sha256 signed_edges walks.until_return sets.grown_by reached_through upward smallest

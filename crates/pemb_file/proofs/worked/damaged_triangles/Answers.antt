@@ -20,7 +20,8 @@ use Rattle.plane_model.specs.Regions.{upward}
 use Rattle.pemb_file.specs.Image.{bytes_of}
 use Rattle.pemb_file.specs.Layout.{words_of, sections, section_words, total_words, file_words, words_before, section, section_from, part, bits_at, fields_at}
 use Rattle.pemb_file.specs.Contents.{contents_of}
-use Rattle.pemb_file.specs.MapOfFile.{signed_at, node_at, face_at, forward_position, parent_number}
+use Rattle.region_tree.specs.Nesting.{parent_number}
+use Rattle.pemb_file.specs.MapOfFile.{signed_at, node_at, face_at, forward_position}
 use Rattle.pemb_file.specs.Faults.{front_fault, count_fault, digest_fault, directories_fault, all_names_fault, place_fault, order_fault, isolated_fault, places_fault, start_fault, member_fault, regions_fault, padding_from, padding_fault}
 use Rattle.pemb_file.specs.Lawful.{content_fault, map_of_file, first_fault, is_whole, has_sizes}
 use Rattle.pemb_file.proofs.worked.damaged_triangles.Goals as goal
