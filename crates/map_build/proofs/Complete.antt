@@ -1,12 +1,11 @@
--- What is made of a walk of consistent tables without regions is whole.
+-- What is made of a walk of consistent tables is whole.
 use Rattle.std.specs.Prelude.{ℤ, pos, negsuc, map, not, nat_le, slice_index, slice_get, unwrap_or, is_none}
-use Rattle.std.proofs.Common.{◌≡◌, ◌≢◌, ℕ, zero, suc, ◌+◌, ◌-◌, ◌*◌, ◌<◌, ◌≤◌, ◌⊎◌, inl, inr, Bool, true, false, ◌&&◌, List, [], ◌∷◌, length, get_or, refl, ap, sym, ◌∙◌, arith, subst, Option, Some, None, ◌==◌}
+use Rattle.std.proofs.Common.{◌≡◌, ◌≢◌, ℕ, zero, suc, ◌+◌, ◌-◌, ◌*◌, ◌<◌, ◌≤◌, ◌⊎◌, inl, inr, Bool, true, false, ◌&&◌, List, [], ◌∷◌, length, refl, ap, sym, ◌∙◌, arith, subst, Option, Some, None, ◌==◌}
 use Rattle.std.specs.List.{range_with_len, list_all}
 use Rattle.std.proofs.lemmas.Bool.{cases_lt, cases_eq, and_parts, and_from, lt-ltb, le-leb, eqb-true, eq-eqb, ne_eqb, or_cases, both_ways, false_from_ne_true, or_right}
 use Rattle.orbits.proofs.Numbers.{same_numbers, in_range}
 use Rattle.orbits.proofs.Lists.{from_filter, pigeon}
 use Rattle.bit_words.proofs.Finds.{find-none, least-find}
-use Rattle.bit_words.specs.Bits.{rank}
 use Rattle.bit_words.proofs.Ranks.{rank_both}
 use Rattle.parens.specs.Matching.{balance_fault}
 use Rattle.topo_base.specs.declared.id.TheConstants.{LARGEST_ID}
@@ -35,11 +34,11 @@ use Rattle.id_names.specs.Names.{number_of, AreDistinctIds, is_names}
 use Rattle.id_names.proofs.NameLaws.{names_pass}
 use Rattle.pemb_file.specs.Contents.{Contents}
 use Rattle.pemb_file.specs.MapOfFile.{signed_at}
-use Rattle.pemb_file.specs.Faults.{is_place, begins_before, place_fault, places_fault, is_smallest, start_fault, member_fault, most, most_regions}
+use Rattle.pemb_file.specs.Faults.{is_place, begins_before, place_fault, places_fault, is_smallest, start_fault, member_fault, most}
 use Rattle.pemb_file.specs.Lawful.{all_of, has_sizes, is_whole}
 use Rattle.pemb_file.proofs.Lists.{index-has}
 use Rattle.std.proofs.lemmas.List.FromFn.{length-range_with_len}
-use Rattle.map_build.specs.Made.{walked_at, made_with, faces_made, place_of, no_region}
+use Rattle.map_build.specs.Made.{walked_at, made_with, faces_made, place_of, member_number}
 use Rattle.map_build.specs.Walked.{IsMapWalk}
 use Rattle.map_build.proofs.Paired as paired
 use Rattle.map_build.proofs.Steps as steps
@@ -48,10 +47,11 @@ use Rattle.map_build.proofs.Keys.{few_nodes, few_edges, edge_in_range, face_in_r
 use Rattle.map_build.proofs.Positions as at_positions
 use Rattle.map_build.proofs.Shells.{list_has, number_there}
 use Rattle.map_build.proofs.Shells as shells
-use Rattle.map_build.proofs.Flats.{length-map, apart_at}
+use Rattle.map_build.proofs.Flats.{length-map, apart_at, map_at}
 use Rattle.map_build.proofs.PlaceOrder.{edges_one}
 use Rattle.map_build.proofs.PlaceOrder as order
 use Rattle.map_build.proofs.Isolated as isolated
+use Rattle.map_build.proofs.MadeRegions as regions
 
 -- tests that all hold
 ten : {a b c d e f g h i j : Bool} → a ≡ true → b ≡ true → c ≡ true → d ≡ true → e ≡ true → f ≡ true → g ≡ true → h ≡ true → i ≡ true → j ≡ true → all_of (a ∷ b ∷ c ∷ d ∷ e ∷ f ∷ g ∷ h ∷ i ∷ j ∷ []) ≡ true
@@ -90,11 +90,6 @@ get_some (x ∷ ds) (suc j) d e = let r = get_some ds j d e in (omega (arith, r.
 is_outer-same : (j : ℕ) (r : RingNumber) → is_outer j r ≡ true → r ≡ Outer j
 is_outer-same j (Outer i) h = ap Outer (eqb-true i j h)
 is_outer-same j (Shell s) h = cc
-
-pub zeros : (xs : List ℕ) (i : ℕ) → get_or (map no_region xs) i 0 ≡ 0
-zeros [] i = refl
-zeros (x ∷ xs) zero = refl
-zeros (x ∷ xs) (suc i) = zeros xs i
 
 place_of-some : (faces : List ℕ) (f k : ℕ) → f ≢ 0 → number_of faces f ≡ Some k → place_of faces f ≡ k + 1
 place_of-some faces f k n e = rw (ne_eqb f 0 n) (rw e refl)
@@ -279,15 +274,12 @@ module _ (t : Rows) (g : AreGood t) (darts : List ℤ) (tree first : List Bool) 
 
   no_member_fault : member_fault made ≡ None
   unfolding member_fault
-  no_member_fault = find-none (λ x. not (nat_le (slice_index made.members x) (length made.regions))) 0 (length made.members) (λ x a b. rw (zeros (0 ∷ faces) x) refl)
-
-  no_region_bits : balance_fault [] 0 0 ≡ None
-  unfolding balance_fault rank
-  no_region_bits = refl
-
-  no_regions : is_names [] ≡ true
-  unfolding is_names
-  no_regions = refl
+  no_member_fault =
+      find-none (λ x. not (nat_le (slice_index made.members x) (length made.regions))) 0 (length made.members) (λ x a b.
+      let n = length-map (member_number m) (0 ∷ faces) in
+      let at = map_at (member_number m) (0 ∷ faces) x (omega (arith, b, n)) in
+      let below = regions.number_below t g (slice_index (0 ∷ faces) x) in
+      rw (le-leb (slice_index made.members x) (length made.regions) (omega (arith, at, below))) refl)
 
   -- sizes
   pub kinds_many : tree_edges c + shell_count c ≡ edge_count c
@@ -349,7 +341,9 @@ module _ (t : Rows) (g : AreGood t) (darts : List ℤ) (tree first : List Bool) 
       let kl = kinds_many in
       let sh = shells.faces_len t g darts tree first places other w in
       let ol = order.order_len t g darts tree first places other w face_names in
-      let ml = length-map no_region (0 ∷ faces) in
+      let ml = length-map (member_number m) (0 ∷ faces) in
+      let rl = (regions.numbered t g).places in
+      let fr = regions.few_regions t g in
       let fc = few_components in
       let fe = few_edges t g in
       let fn = few_nodes t g in
@@ -360,12 +354,12 @@ module _ (t : Rows) (g : AreGood t) (darts : List ℤ) (tree first : List Bool) 
       let t3 : (length made.nodes == length made.places + tree_edges c + length made.isolated) ≡ true = eq-eqb _ _ (omega (arith, nl, cl, pl)) in
       let t4 : (length faces + tree_edges c == length made.edges) ≡ true = eq-eqb _ _ (omega (arith, kl, sh, el)) in
       let t5 : (length made.place_order == length made.places) ≡ true = eq-eqb _ _ (omega (arith, ol, pl)) in
-      let t6 : (length made.region_bits == 2 * length made.regions) ≡ true = refl in
+      let t6 : (length made.region_bits == 2 * length made.regions) ≡ true = eq-eqb _ _ rl in
       let t7 : (length made.members == length faces + 1) ≡ true = eq-eqb _ _ (omega (arith, ml)) in
       let t8 : nat_le (length made.places) (length made.edges) ≡ true = le-leb _ _ (omega (arith, fc, pl, el)) in
       let t9 : nat_le (length made.edges) most ≡ true = le-leb _ _ (omega (arith, el, fe, pm)) in
       let t10 : nat_le (length made.nodes) most ≡ true = le-leb _ _ (omega (arith, nf, fn)) in
-      let t11 : nat_le (length made.regions) most_regions ≡ true = refl in
+      let t11 : nat_le (length made.regions) most ≡ true = le-leb _ _ fr in
       twelve t0 t1 t2 t3 t4 t5 t6 t7 t8 t9 t10 t11
 
   -- what is made is whole
@@ -376,9 +370,9 @@ module _ (t : Rows) (g : AreGood t) (darts : List ℤ) (tree first : List Bool) 
       let t2 : is_names made.nodes ≡ true = names_pass made.nodes (isolated.node_names t g darts tree first places other w face_names) in
       let t3 : is_names made.edges ≡ true = names_pass made.edges edge_names in
       let t4 : is_names made.faces ≡ true = names_pass faces face_names in
-      let t5 : is_names made.regions ≡ true = no_regions in
+      let t5 : is_names made.regions ≡ true = names_pass made.regions (regions.numbered t g).names in
       let t6 : is_none (places_fault made) ≡ true = rw no_places_fault refl in
       let t7 : is_none (start_fault made) ≡ true = rw no_start_fault refl in
-      let t8 : is_none (balance_fault made.region_bits 0 (length made.region_bits)) ≡ true = rw no_region_bits refl in
+      let t8 : is_none (balance_fault made.region_bits 0 (length made.region_bits)) ≡ true = (regions.numbered t g).balanced in
       let t9 : is_none (member_fault made) ≡ true = rw no_member_fault refl in
       ten sizes_right t1 t2 t3 t4 t5 t6 t7 t8 t9

@@ -23,3 +23,5 @@ pub mod Checks
 pub mod DartRows
 pub mod Naming
 pub mod Placing
+pub mod MadeRegions
+pub mod MemberRegions

@@ -1,5 +1,5 @@
 -- What stands in the faces of a walk of consistent tables is what the contents of the map have.
-use Rattle.std.specs.Prelude.{ℤ, pos, map, find, nat_eq, nat_le, slice_get, slice_index, unwrap_or, is_some, option_map, if◌then◌else◌, neg_ℤ, replicate, None, Some, Option}
+use Rattle.std.specs.Prelude.{ℤ, pos, map, find, nat_eq, nat_le, slice_get, slice_index, unwrap_or, is_some, option_map, if◌then◌else◌, neg_ℤ, None, Some, Option}
 use Rattle.std.specs.List.{All, IsDistinct, cons_option, list_all, range_with_len}
 use Rattle.std.specs.Option.{option_and_then}
 use Rattle.std.proofs.Common.{◌≡◌, ℕ, zero, suc, ◌+◌, ◌*◌, ◌%◌, ◌<◌, ◌⊎◌, ◌==◌, inl, inr, Bool, true, false, List, [], ◌∷◌, length, get_or, refl, ap, sym, ◌∙◌, arith, subst}
@@ -48,11 +48,15 @@ use Rattle.map_build.proofs.Shells as shells
 use Rattle.map_build.proofs.Standings.{same_members}
 use Rattle.std.specs.List.{AllByRecursion}
 use Rattle.std.proofs.lemmas.List.Elements.{All-from_recursion}
-use Rattle.std.proofs.Common.{add-one}
 use Rattle.islands.proofs.Collected.{has_index}
 use Rattle.pemb_file.proofs.Lists.{index-has}
 use Rattle.map_build.specs.Filled.{AreFilled}
-use Rattle.map_build.specs.Made.{no_region}
+use Rattle.map_build.specs.Made.{member_number}
+use Rattle.map_build.specs.Placed.{AreRegionsOf, member_region}
+use Rattle.region_tree.specs.Parts.{member_places}
+use Rattle.region_tree.specs.declared.parts.MemberPlace.{MemberPlace}
+use Rattle.region_tree.specs.declared.parts.RegionParts.{RegionParts}
+use Rattle.map_build.proofs.MadeRegions as regions
 use Rattle.map_build.specs.Named.{AreNamesOf}
 use Rattle.map_build.specs.Placed.{ArePlaced, joined_contents}
 use Rattle.map_build.specs.declared.names.Names.{Names}
@@ -137,10 +141,6 @@ module _ (m : PlaneMap) (fs : List ℕ) where
 map_map : {X Y Z : Type 0} (f : Y → Z) (h : X → Y) (xs : List X) → map f (map h xs) ≡ map (λ x. f (h x)) xs
 map_map f h [] = refl
 map_map f h (x ∷ xs) = let more = map_map f h xs in λ i. f (h x) ∷ more i
-
-zeros : (fs : List ℕ) → replicate (length fs) 0 ≡ map no_region fs
-zeros [] = refl
-zeros (f ∷ fs) = let more = zeros fs in λ i. 0 ∷ more i
 
 module _ (t : Rows) (range : is_in_range t ≡ true) (ok : is_consistent t ≡ true) (w : Walked) (walk : IsWalkOf t w) where
   g : AreGood t
@@ -261,6 +261,26 @@ module _ (t : Rows) (range : is_in_range t ≡ true) (ok : is_consistent t ≡ t
   nodes_known ks ns e f =
       let P : List ℕ → List NodeRow → Type 0 = λ ks ns. (k : ℕ) (d : NodeRow) → k < length ns → IsKnownOrNone ks (get_or ns k d).face in
       subst (λ xs. P xs ns) (sym (e ∙ faces_are)) (subst (λ ys. P faces ys) (sym f) nodes_known_so)
+
+  -- the faces of members
+  at_member : (ms : List MemberPlace) (k : ℕ) (d : MemberPlace) → ms ≡ member_places m → k < length ms → slice_get (member_places m) k ≡ Some (get_or ms k d)
+  at_member ms k d e l = subst (λ ps. slice_get ps k ≡ Some (get_or ms k d)) e (slice_get-get_or ms k d l)
+
+  pub members_known : (ks : List ℕ) (ms : List MemberPlace) → ks ≡ (contents_of_map m).faces → ms ≡ member_places m → (k : ℕ) (d : MemberPlace) → k < length ms → IsKnown ks (get_or ms k d).face
+  members_known ks ms e f k d l = subst (λ xs. IsKnown xs (get_or ms k d).face) (sym (e ∙ faces_are)) (known (get_or ms k d).face (regions.member_face t g k (get_or ms k d) (at_member ms k d f l)))
+
+  pub members_few : (ms : List MemberPlace) → ms ≡ member_places m → (k : ℕ) (d : MemberPlace) → k < length ms → (get_or ms k d).region < 16777216
+  members_few ms f k d l = regions.member_few t g k (get_or ms k d) (at_member ms k d f l)
+
+  pub members_apart : (ms : List MemberPlace) → ms ≡ member_places m → is_distinct (map (λ (p : MemberPlace). p.face) ms) ≡ true
+  members_apart ms f = subst (λ ps. is_distinct (map (λ (p : MemberPlace). p.face) ps) ≡ true) (sym f) (regions.members_apart t g)
+
+  pub member_numbers : (ms : List MemberPlace) (ks : List ℕ) → ms ≡ member_places m → map (member_region ms) (0 ∷ ks) ≡ map (member_number m) (0 ∷ ks)
+  member_numbers ms ks f = ap (λ ps. map (member_region ps) (0 ∷ ks)) f ∙ each (0 ∷ ks)
+    where
+      each : (fs : List ℕ) → map (member_region (member_places m)) fs ≡ map (member_number m) fs
+      each [] = refl
+      each (x ∷ fs) = let here = regions.member_is t g x in let more = each fs in λ i. here i ∷ more i
 
   pub node_ids_differ : (ns : List NodeRow) → ns ≡ t.nodes → is_distinct (map (λ n. n.id) ns) ≡ true
   node_ids_differ ns e = subst (λ xs. is_distinct (map (λ n. n.id) xs) ≡ true) (sym e) (node_ids_apart t g)
@@ -398,11 +418,8 @@ module _ (t : Rows) (range : is_in_range t ≡ true) (ok : is_consistent t ≡ t
                 inr (h.0, subst (λ y. comes_before y (walked_at outer k) ≡ true) (sym (start_is j j_in)) (subst (λ z. comes_before (signed_edge t.edges (slice_index starts j)) z ≡ true) (sym (start_is k k_in)) before))
           ]
 
-      members_same : replicate (length fs + 1) 0 ≡ map no_region (0 ∷ fs)
-      members_same = rw (add-one (length fs)) (let more = zeros fs in λ i. 0 ∷ more i)
-
-      filled : AreFilled m c signed (joined_contents w.tour n p)
-      filled =
+      filled : (r : RegionParts) → AreRegionsOf t r → AreFilled m c signed (joined_contents w.tour n p r)
+      filled r numbered =
           record {
             code = refl;
             edges_len = named.edges_len;
@@ -422,13 +439,13 @@ module _ (t : Rows) (range : is_in_range t ≡ true) (ok : is_consistent t ≡ t
             places = places_same;
             order_all = order_all;
             order = order;
-            regions = refl;
-            region_bits = refl;
-            members = members_same;
+            regions = numbered.ids;
+            region_bits = numbered.bits;
+            members = placed.members;
           }
 
       -- what is joined is the contents of the map
-      pub joined_is : joined_contents w.tour n p ≡ contents_of_map m
-      joined_is =
-          filled_same t g signed tree w.tour.first.items w.tour.starts.items (naming.other t range ok w walk) (naming.map_walk t range ok w walk) (joined_contents w.tour n p) filled
+      pub joined_is : (r : RegionParts) → AreRegionsOf t r → joined_contents w.tour n p r ≡ contents_of_map m
+      joined_is r numbered =
+          filled_same t g signed tree w.tour.first.items w.tour.starts.items (naming.other t range ok w walk) (naming.map_walk t range ok w walk) (joined_contents w.tour n p r) (filled r numbered)
           ∙ sym (tour_same t range ok starts w.tour.darts.items tree w.tour.first.items w.tour.starts.items walk.starts walk.tour)

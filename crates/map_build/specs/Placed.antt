@@ -1,5 +1,5 @@
--- What stands in faces, in the order of rows or of components.
-use Rattle.std.specs.Prelude.{◌≡◌, ℕ, ◌+◌, ◌<◌, ◌⊎◌, ⊤, IsTrue, List, [], ◌++◌, map, replicate, length, slice_index, Option, None, Some, option_map}
+-- What stands in faces, in the order of rows or of components, and the regions that faces are in.
+use Rattle.std.specs.Prelude.{◌≡◌, ℕ, ◌+◌, ◌<◌, ◌⊎◌, ⊤, IsTrue, List, ◌∷◌, ◌++◌, ◌==◌, map, find, length, slice_index, Option, None, Some, option_map, unwrap_or}
 use Rattle.std.specs.List.{filter_map, range_with_len}
 use Rattle.plane_model.specs.declared.rows.NodeRow.{NodeRow}
 use Rattle.plane_model.specs.Sets.{has}
@@ -8,7 +8,11 @@ use Rattle.std.specs.List.Sorted.{IsPermutation}
 use Rattle.plane_model.specs.Rows.{Rows}
 use Rattle.map_build.specs.DartRows.{key_of_dart}
 use Rattle.pemb_file.specs.Contents.{Contents}
-use Rattle.map_build.specs.Made.{place_of}
+use Rattle.region_tree.specs.Parts.{member_places, region_bits, region_ids}
+use Rattle.region_tree.specs.declared.parts.MemberPlace.{MemberPlace}
+use Rattle.region_tree.specs.declared.parts.RegionParts.{RegionParts}
+use Rattle.plane_model.specs.PlaneMap.{map_of}
+use Rattle.map_build.specs.Made.{place_of, member_number}
 use Rattle.map_build.specs.Tours.{code_of_tour}
 use Rattle.spanning_pair.specs.declared.places.Tour.{Tour}
 use Rattle.map_build.specs.declared.names.Names.{Names}
@@ -48,26 +52,37 @@ pub record AreOrdered (places keys order : List ℕ) : Type 0 where
 abbrev pub start_keys : Rows → Walked → List ℕ
 start_keys t w = map (key_of_dart t.edges) w.placement.starts
 
--- what stands in the faces of a walk of tables
+-- the region of a face by its member: 0 where it has none, and else 1 + the region's number
+abbrev pub member_region : List MemberPlace → ℕ → ℕ
+member_region members f = unwrap_or (option_map (λ p. p.region + 1) (find (λ p. p.face == f) members)) 0
+
+-- the regions of tables by number
+pub record AreRegionsOf (t : Rows) (r : RegionParts) : Type 0 where
+  pub bits : r.bits.items ≡ region_bits (map_of t)
+  pub ids : r.ids.items ≡ region_ids (map_of t)
+  pub members : r.members.items ≡ member_places (map_of t)
+
+-- what stands in the faces of a walk of tables, and their regions
 pub record ArePlaced (t : Rows) (w : Walked) (faces : List ℕ) (p : Placed) : Type 0 where
   pub places : p.places.items ≡ map (place_of faces) w.placement.faces
   pub order : AreOrdered p.places.items (start_keys t w) p.order.items
   pub isolated : IsPermutation (placed_nodes faces t.nodes) p.isolated.items
   pub isolated_order : AreInOrder p.isolated.items
+  pub members : p.members.items ≡ map (member_number (map_of t)) (0 ∷ faces)
 
--- the contents that hold what a walk comes to and what stands in its faces, with no regions
-abbrev pub joined_contents : Tour → Names → Placed → Contents
-joined_contents tour n p =
+-- the contents that hold what a walk comes to, what stands in its faces, and regions
+abbrev pub joined_contents : Tour → Names → Placed → RegionParts → Contents
+joined_contents tour n p r =
     record {
       code = code_of_tour tour;
       forward = n.forward.items;
       nodes = n.nodes.items ++ map (λ s. s.name) p.isolated.items;
       edges = n.edges.items;
       faces = n.faces.items;
-      regions = [];
+      regions = r.ids.items;
       places = p.places.items;
       place_order = p.order.items;
       isolated = map (λ s. s.place) p.isolated.items;
-      region_bits = [];
-      members = replicate (length n.faces.items + 1) 0;
+      region_bits = r.bits.items;
+      members = p.members.items;
     }

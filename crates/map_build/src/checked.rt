@@ -1,6 +1,6 @@
-//! The walk round the components of tables that are consistent.
+//! The walk round the components of tables that are consistent, whatever their regions are.
 
-ghost use Rattle.std.specs.Prelude.{◌≡◌, IfErr, IfOk, IsTrue, OnOk, [], length, map};
+ghost use Rattle.std.specs.Prelude.{◌≡◌, IfErr, IfOk, IsTrue, OnOk, length, map};
 ghost use Rattle.plane_model.specs.InRange.{is_in_range};
 ghost use Rattle.plane_model.specs.Rows.{rows_of};
 ghost use Rattle.plane_model.specs.PlaneMap.{map_of, side};
@@ -14,7 +14,7 @@ ghost use Rattle.rotation_check.specs.Darts.{map_of_rotation};
 ghost use Rattle.spanning_pair.specs.Rotations.{next_dart, node_row, AreComponentStarts};
 ghost use Rattle.spanning_pair.specs.Tours.{IsTour};
 ghost use Rattle.map_build.specs.BuildFaults.{Names};
-ghost use Rattle.map_build.specs.Starts.{AreOuterDarts};
+ghost use Rattle.map_build.specs.Starts.{AreOuterDarts, without_regions};
 ghost use Rattle.map_build.specs.Tours.{IsWalkOf};
 ghost use Rattle.map_build.specs.declared.fault.BuildFault.TheVariants as faults;
 
@@ -40,12 +40,10 @@ fn place_components(
     tables: &Tables,
 ) -> Result<Placement, CheckFault>
     requires in_range { IsTrue (is_in_range (rows_of tables.now)) }
-    requires no_regions { (rows_of tables.now).regions ≡ [] }
-    requires no_members { (rows_of tables.now).members ≡ [] }
     requires system { IsTrue (is_rotation_system (rows_of tables.now)) }
     requires nodes { rotation.now.nodes ≡ (rows_of tables.now).nodes }
     requires edges { rotation.now.edges ≡ (rows_of tables.now).edges }
-    ensures consistent { OnOk result (IsTrue (is_consistent (rows_of tables.now))) }
+    ensures consistent { OnOk result (IsTrue (is_consistent (without_regions (rows_of tables.now)))) }
     ensures starts { IfOk result (λ p. AreOuterDarts (rows_of tables.now) p.starts) }
     ensures faces { IfOk result (λ p. p.faces ≡ map (side (map_of (rows_of tables.now))) (outer_rings (map_of (rows_of tables.now)))) }
     ensures refused { IfErr result (λ e. CheckNames e (first_fault (rows_of tables.now))) }
@@ -69,12 +67,10 @@ fn walk_from(alloc: Global, rotation: &Rotation, starts: &[u32]) -> Result<Tour,
     }
 }
 
-/// Where the components of consistent tables are and the walk round them, or what is first wrong with the tables.
+/// Where the components of tables are and the walk round them, or what is first wrong with nodes, edges and faces.
 pub(crate) fn walk(alloc: Global, tables: &Tables) -> Result<Walked, BuildFault>
     requires in_range { IsTrue (is_in_range (rows_of tables.now)) }
-    requires no_regions { (rows_of tables.now).regions ≡ [] }
-    requires no_members { (rows_of tables.now).members ≡ [] }
-    ensures consistent { OnOk result (IsTrue (is_consistent (rows_of tables.now))) }
+    ensures consistent { OnOk result (IsTrue (is_consistent (without_regions (rows_of tables.now)))) }
     ensures walk { IfOk result (IsWalkOf (rows_of tables.now)) }
     ensures refused { IfErr result (λ e. Names e (first_fault (rows_of tables.now))) }
 {

@@ -1,5 +1,5 @@
 //! From consistent tables to the image of their map: what its file holds is made of the map alone, by the walk round a
-//! spanning tree of each component.
+//! spanning tree of each component, and by its regions in preorder.
 #![tactic(auto)]
 
 mod building;
@@ -9,6 +9,7 @@ mod fault;
 pub mod laws;
 mod names;
 mod places;
+mod regions;
 mod rows;
 mod standing;
 #[cfg(test)]

@@ -1,6 +1,6 @@
-//! The places of faces, and what stands in them.
+//! The places of faces, what stands in them, and the regions that they are in.
 
-ghost use Rattle.std.specs.Prelude.{◌≡◌, ◌≤◌, ◌<◌, ◌*◌, ◌^◌, ℕ, IfOk, IsTrue, length, map, nat_eq, nat_le, slice_index};
+ghost use Rattle.std.specs.Prelude.{◌≡◌, ◌≤◌, ◌<◌, ◌*◌, ◌^◌, ◌∷◌, ℕ, IfOk, IsTrue, length, map, nat_eq, nat_le, slice_index};
 ghost use Rattle.std.specs.List.{All, IsDistinct, list_all};
 ghost use Rattle.std.specs.List.Sorted.{IsPermutation};
 ghost use Rattle.plane_model.specs.Sets.{is_distinct};
@@ -10,11 +10,12 @@ ghost use Rattle.id_names.specs.Names.{AreDistinctIds};
 ghost use Rattle.map_build.specs.DartRows.{key_of_dart};
 ghost use Rattle.map_build.specs.Made.{place_of};
 ghost use Rattle.map_build.specs.Standing.{AreInOrder};
-ghost use Rattle.map_build.specs.Placed.{IsKnown, IsKnownOrNone, AreOrdered, placed_nodes, placed_components};
+ghost use Rattle.map_build.specs.Placed.{IsKnown, IsKnownOrNone, AreOrdered, member_region, placed_nodes, placed_components};
 
 use crate::rows::edge_key;
 use crate::standing::{Standing, in_order, standing_names};
 use plane_model::{EdgeRow, NodeRow};
+use region_tree::MemberPlace;
 use rotation_check::rows_by_id;
 use std::alloc::{AllocError, Global};
 use std::collections::BTreeMap;
@@ -104,6 +105,25 @@ impl<'a> FacePlaces<'a> {
     {
         let standing = self.of_nodes(alloc, nodes)?;
         Ok(in_order(standing))
+    }
+
+    /// The regions of face 0 and of each face by number: 0 where a face is no member, and else 1 + the number of its
+    /// region.
+    pub(crate) fn member_regions(
+        &self,
+        alloc: Global,
+        members: &[MemberPlace],
+    ) -> Result<Vec<u32>, AllocError>
+        requires known { All (λ p. IsKnown self.now.faces.now p.face) members.now }
+        requires few { All (λ p. p.region < 2 ^ 24) members.now }
+        requires apart { IsTrue (is_distinct (map (λ p. p.face) members.now)) }
+        ensures { IfOk result (λ regions. regions.items ≡ map (member_region members.now) (0 ∷ self.now.faces.now)) }
+    {
+        let mut regions = vec![in alloc; 0; self.faces.len() + 1]?;
+        for member in members {
+            regions[self.place(member.face) as usize] = member.region + 1;
+        }
+        Ok(regions)
     }
 }
 

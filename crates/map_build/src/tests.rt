@@ -1,6 +1,6 @@
 //! Images of small maps.
 
-ghost use Rattle.std.specs.Prelude.{◌≡◌, ◌<◌, ◌&&◌, IfOk, IsTrue, []};
+ghost use Rattle.std.specs.Prelude.{◌≡◌, ◌<◌, ◌&&◌, IsTrue};
 ghost use Rattle.std.specs.List.{list_all};
 ghost use Rattle.topo_base.specs.SignedEdge.{is_signed_edge};
 ghost use Rattle.plane_model.specs.InRange.{is_edge_in_range, is_face_id, is_id, is_in_range, is_none_or};
@@ -10,13 +10,13 @@ use crate::{BuildFault, build};
 use bit_words::Steps;
 use map_maker::grid;
 use pemb_file::{Counts, open};
-use plane_model::{EdgeRow, FaceRow, NodeRow, Tables};
+use plane_model::{EdgeRow, FaceRow, MemberRow, NodeRow, RegionRow, Tables};
 use std::alloc::{AllocError, Global};
 use std::marker::Brand;
 use std::process::Abort;
 use std::sync::ledger::{Blank, Ledger};
 use std::test::Fail;
-use topo_base::{IdNumber, LARGEST_ID, Refusal, SignedNumber};
+use topo_base::{IdNumber, LARGEST_ID, Refusal, SignedNumber, Table};
 
 /// A node: its id and the face that contains it.
 type Node = (IdNumber, Option<IdNumber>);
@@ -28,6 +28,12 @@ type Edge = (
     (SignedNumber, SignedNumber),
     (IdNumber, IdNumber),
 );
+
+/// A region: its id and its parent.
+type Region = (IdNumber, Option<IdNumber>);
+
+/// A member: its region and its face.
+type Member = (IdNumber, IdNumber);
 
 /// The edges of a triangle whose inner face is 1.
 const TRIANGLE: [Edge; 3] = [
@@ -97,6 +103,48 @@ const WORDS: [u64; 35] = [
     0,
 ];
 
+/// The words behind the digest in the file of a triangle with a closed edge and a node inside it, and two regions.
+const ISLAND_WORDS: [u64; 38] = [
+    4,
+    2,
+    2,
+    1,
+    2,
+    27,
+    4 << 32,
+    3,
+    2 << 32,
+    0,
+    5,
+    2 << 32,
+    0,
+    6 << 32,
+    8,
+    0,
+    2 + (4 << 32),
+    1 + (3 << 32),
+    5,
+    2,
+    3 + (1 << 32),
+    4,
+    1 + (3 << 32),
+    2 + (4 << 32),
+    2 << 32,
+    1 + (3 << 32),
+    1 + (2 << 32),
+    1 << 32,
+    1 << 32,
+    1 << 32,
+    2,
+    3,
+    2 << 32,
+    0,
+    1 + (2 << 32),
+    1 << 32,
+    2 << 32,
+    1,
+];
+
 fn is_id(id: IdNumber) -> bool
     ensures { result ≡ is_id id }
 {
@@ -147,22 +195,37 @@ fn are_faces_in_range(faces: &[FaceRow]) -> bool
     faces.iter().all(|face| is_face_id(face.id))
 }
 
-/// Whether tables without regions and members are in range.
+fn are_regions_in_range(regions: &[RegionRow]) -> bool
+    ensures { result ≡ list_all (λ r. is_id r.id && is_none_or is_id r.parent) regions.now }
+{
+    regions.iter().all(|region| is_id(region.id) && region.parent.is_none_or(is_id))
+}
+
+fn are_members_in_range(members: &[MemberRow]) -> bool
+    ensures { result ≡ list_all (λ r. is_id r.region && is_face_id r.face) members.now }
+{
+    members
+        .iter()
+        .all(|member| is_id(member.region) && is_face_id(member.face))
+}
+
+/// Whether tables are in range.
 fn are_in_range(tables: &Tables) -> bool
     ensures { IsTrue result → IsTrue (is_in_range (rows_of tables.now)) }
 {
     if !are_nodes_in_range(&tables.nodes)
         || !are_edges_in_range(&tables.edges)
         || !are_faces_in_range(&tables.faces)
+        || !are_regions_in_range(&tables.regions)
+        || !are_members_in_range(&tables.members)
     {
-        return false;
-    }
-    if !tables.regions.is_empty() || !tables.members.is_empty() {
         return false;
     }
     tables.nodes.len() <= 16_777_216
         && tables.edges.len() <= 16_777_216
         && tables.faces.len() <= 16_777_216
+        && tables.regions.len() <= 16_777_216
+        && tables.members.len() <= 16_777_217
 }
 
 fn tables(
@@ -170,10 +233,9 @@ fn tables(
     nodes: &[Node],
     edges: &[Edge],
     faces: &[IdNumber],
-) -> Result<Tables, AllocError>
-    ensures regions { IfOk result (λ t. t.regions.items ≡ []) }
-    ensures members { IfOk result (λ t. t.members.items ≡ []) }
-{
+    regions: &[Region],
+    members: &[Member],
+) -> Result<Tables, AllocError> {
     Ok(Tables {
         nodes: nodes
             .iter()
@@ -192,8 +254,14 @@ fn tables(
             })
             .collect(alloc)?,
         faces: faces.iter().map(|&id| FaceRow { id }).collect(alloc)?,
-        regions: Vec::new(alloc),
-        members: Vec::new(alloc),
+        regions: regions
+            .iter()
+            .map(|&(id, parent)| RegionRow { id, parent })
+            .collect(alloc)?,
+        members: members
+            .iter()
+            .map(|&(region, face)| MemberRow { region, face })
+            .collect(alloc)?,
     })
 }
 
@@ -207,17 +275,35 @@ fn bytes_of(alloc: Global, words: &[u64]) -> Result<Vec<u8>, Fail> {
 }
 
 /// The image of these tables.
+fn built_of(alloc: Global, tables: &Tables) -> Result<Result<Vec<u8>, BuildFault>, Fail> {
+    if !are_in_range(tables) {
+        return Err(Fail::new("a number that is out of range"));
+    }
+    Ok(build(alloc, tables))
+}
+
+/// The image of these tables without regions.
 fn built(
     alloc: Global,
     nodes: &[Node],
     edges: &[Edge],
     faces: &[IdNumber],
 ) -> Result<Result<Vec<u8>, BuildFault>, Fail> {
-    let tables = tables(alloc, nodes, edges, faces)?;
-    if !are_in_range(&tables) {
-        return Err(Fail::new("a number that is out of range"));
-    }
-    Ok(build(alloc, &tables))
+    let tables = tables(alloc, nodes, edges, faces, &[], &[])?;
+    built_of(alloc, &tables)
+}
+
+/// The image of a triangle with a closed edge and a node inside it, with these regions and members.
+fn island_built(
+    alloc: Global,
+    regions: &[Region],
+    members: &[Member],
+) -> Result<Result<Vec<u8>, BuildFault>, Fail> {
+    let nodes = [(1, None), (2, None), (3, None), (4, None), (5, Some(2))];
+    let [first, second, third] = TRIANGLE;
+    let edges = [first, second, third, (4, (4, 4), (4, -4), (2, 1))];
+    let tables = tables(alloc, &nodes, &edges, &[1, 2], regions, members)?;
+    built_of(alloc, &tables)
 }
 
 /// The counts of a file, if it is lawful.
@@ -263,6 +349,32 @@ fn a_triangle_builds_its_words(rt: HostRuntime) -> Result<(), Fail> {
         return Err(Fail::new("no image"));
     };
     assert!(rt; other.as_slice() == want.as_slice());
+    Ok(())
+}
+
+#[test]
+fn an_island_in_two_regions_builds_its_words(rt: HostRuntime) -> Result<(), Fail> {
+    let alloc = rt.alloc();
+    let regions = [(2, Some(1)), (1, None)];
+    let Ok(image) = island_built(alloc, &regions, &[(1, 2), (2, 1)])? else {
+        return Err(Fail::new("no image"));
+    };
+    let want = bytes_of(alloc, &ISLAND_WORDS)?;
+    assert!(rt; image.get(48..) == Some(want.as_slice()));
+    let cycle = Refusal::RegionCycle { region: 1 };
+    assert_eq!(rt;
+        island_built(alloc, &[(1, Some(2)), (2, Some(1))], &[])?.err(),
+        Some(BuildFault::Refused(cycle))
+    );
+    let missing = Refusal::NoRegion {
+        table: Table::Member,
+        id: 1,
+        region: 1,
+    };
+    assert_eq!(rt;
+        island_built(alloc, &[], &[(1, 1)])?.err(),
+        Some(BuildFault::Refused(missing))
+    );
     Ok(())
 }
 

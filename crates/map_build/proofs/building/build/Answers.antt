@@ -23,4 +23,4 @@ pub returns-clause-stands : goal.returns-clause-stands
 unfolding map_of_file
 returns-clause-stands c =
     let t = rows_of c.args.tables.now in
-    subst (λ x. Same (rows_of_contents x) t) (sym (c.in_ok-write_image.ensures.contents ∙ c.in_ok-parts.ensures.contents)) (map_stands t c.requires.in_range c.in_ok-parts.ensures.consistent c.requires.no_regions c.requires.no_members)
+    subst (λ x. Same (rows_of_contents x) t) (sym (c.in_ok-write_image.ensures.contents ∙ c.in_ok-parts.ensures.contents)) (map_stands t c.requires.in_range c.in_ok-parts.ensures.consistent)

@@ -1,8 +1,9 @@
-use Rattle.std.proofs.Common.{subst, sym, ap, ◌∙◌}
+use Rattle.std.proofs.Common.{◌≡◌, ◌∷◌, ℕ, List, rules, subst, sym, ap, ◌∙◌}
 use Rattle.id_names.specs.Names.{AreDistinctIds}
 use Rattle.std.specs.Prelude.{map}
 use Rattle.plane_model.specs.Rows.{rows_of}
-use Rattle.map_build.specs.Made.{place_of}
+use Rattle.plane_model.specs.PlaneMap.{map_of}
+use Rattle.map_build.specs.Made.{place_of, member_number}
 use Rattle.map_build.proofs.Placing as placing
 use Rattle.map_build.proofs.building.place.Goals as goal
 
@@ -29,3 +30,18 @@ component_order-requires-clause-apart c = placing.starts_apart (rows_of c.args.t
 
 pub isolated_nodes-requires-clause-known : goal.isolated_nodes-requires-clause-known
 isolated_nodes-requires-clause-known c = placing.nodes_known (rows_of c.args.tables.now) c.requires.in_range c.requires.consistent c.args.walked.now c.requires.walk c.in_ok-face_places.face_places.faces.now c.deref-3.result.now (c.in_ok-face_places.ensures.faces ∙ c.requires.faces) c.deref-3.ensures.value
+
+pub member_regions-requires-clause-known : goal.member_regions-requires-clause-known
+member_regions-requires-clause-known c = placing.members_known (rows_of c.args.tables.now) c.requires.in_range c.requires.consistent c.args.walked.now c.requires.walk c.in_ok-face_places.face_places.faces.now c.args.members.now (c.in_ok-face_places.ensures.faces ∙ c.requires.faces) c.requires.members
+
+pub member_regions-requires-clause-few : goal.member_regions-requires-clause-few
+member_regions-requires-clause-few c = placing.members_few (rows_of c.args.tables.now) c.requires.in_range c.requires.consistent c.args.walked.now c.requires.walk c.args.members.now c.requires.members
+
+pub member_regions-requires-clause-apart : goal.member_regions-requires-clause-apart
+member_regions-requires-clause-apart c = placing.members_apart (rows_of c.args.tables.now) c.requires.in_range c.requires.consistent c.args.walked.now c.requires.walk c.args.members.now c.requires.members
+
+pub returns : goal.returns
+returns c =
+    let P : List ℕ → Type 0 = λ fs. c.in_ok-members.members.items ≡ map (member_number (map_of (rows_of c.args.tables.now))) (0 ∷ fs) in
+    let members : P c.args.faces.now = subst P c.in_ok-face_places.ensures.faces (c.in_ok-members.ensures ∙ placing.member_numbers (rows_of c.args.tables.now) c.requires.in_range c.requires.consistent c.args.walked.now c.requires.walk c.args.members.now c.in_ok-face_places.face_places.faces.now c.requires.members) in
+    search rules
