@@ -120,6 +120,10 @@ module _ (c : Contents) (h : is_whole c ≡ true) where
   unfolding has_sizes
   forward_many = Rattle.std.proofs.lemmas.Bool.eqb-true _ _ (test_at (size_tests c) 2 sizes)
 
+  pub members_many : length c.members ≡ length c.faces + 1
+  unfolding has_sizes
+  members_many = Rattle.std.proofs.lemmas.Bool.eqb-true _ _ (test_at (size_tests c) 7 sizes)
+
   pub edge_in : (k : Code) (e : ℕ) → k ≡ c.code → e < edge_count k → e < length c.edges
   edge_in k e same l =
       let s = w.sizes.positions in

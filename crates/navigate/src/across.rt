@@ -62,8 +62,8 @@ impl<'a> AdjacentWalk<'a> {
         }
     }
 
-    /// The next face, or None at the end. The marks are the places of the faces given so far: 0 for face 0, and else 1 +
-    /// the number of the face.
+    /// The next face, or None at the end. The marks are the places of the faces given so far: 0 for face 0, and else 1
+    /// + the number of the face.
     pub fn step<C: Ledger>(&mut self, marks: &mut Marks<'_>, steps: &mut Steps<C>) -> Option<FaceId>
         requires room { length (contents_in self.old).faces < room_of marks.old }
         requires marks { HoldsGiven self.old marks.old }

@@ -1,45 +1,19 @@
-//! The regions of faces. A lawful file has none, so that each face has an empty chain and no two have one in common.
+//! The regions of faces: the walk up from a face's own region, and the first region that two faces share.
 
-ghost use Rattle.std.specs.Prelude.{◌≡◌, ◌≤◌, ◌+◌, ◌&&◌, length, is_some, option_map, option_to_list, IfSome, IsSome, IsNone, MatchOption};
+ghost use Rattle.std.specs.Prelude.{◌≡◌, ◌≤◌, ◌+◌, ◌*◌, ◌&&◌, length, is_some, option_map, option_to_list, IfSome, IsSome, IsNone, MatchOption};
 ghost use Rattle.plane_model.specs.Rotation.{is_face};
 ghost use Rattle.plane_model.specs.Regions.{chain, common as common_region};
-ghost use Rattle.navigate.specs.Bound.{served_map, most_words};
+ghost use Rattle.pemb_file.specs.MapOfFile.{face_at_place};
+ghost use Rattle.pemb_file.specs.Served.{contents_of_view};
+ghost use Rattle.navigate.specs.Bound.{served_map, most_words, line_digits};
 ghost use Rattle.navigate.specs.RegionWalk.{rest, allowance};
 
 use crate::names;
+use crate::upward::RegionWalk;
 use bit_words::Steps;
 use pemb_file::Served;
 use std::sync::ledger::Ledger;
 use topo_base::{FaceId, RegionId};
-
-/// A walk from the region of a face to its parent, and so on.
-#[derive(Clone, Copy)]
-pub struct RegionWalk<'a> {
-    served: Served<'a>,
-}
-
-impl<'a> RegionWalk<'a> {
-    ghost use Rattle.std.specs.Prelude.{◌≡◌, ◌≤◌, ◌+◌, ◌∷◌, [], IsSome, IsNone, MatchOption};
-    ghost use Rattle.navigate.specs.RegionWalk.{rest, allowance};
-
-    /// The file over which it goes.
-    pub fn served(&self) -> Served<'a>
-        ensures { result ≡ self.now.served }
-    {
-        self.served
-    }
-
-    /// The next region, or None at the end.
-    pub fn step<C: Ledger>(&mut self, steps: &mut Steps<C>) -> Option<RegionId>
-        ensures next { MatchOption result (rest self.old ≡ []) (λ r. rest self.old ≡ r.0 ∷ rest self.new) }
-        ensures end { IsNone result → rest self.new ≡ [] }
-        ensures least { IsSome result → steps.old + 1 ≤ steps.new }
-        ensures free { IsNone result → steps.new ≡ steps.old }
-        ensures paid { steps.new + allowance self.new ≤ steps.old + allowance self.old }
-    {
-        None
-    }
-}
 
 /// The walk from the region of a face to its parent, and so on. None where the map has no such face.
 pub fn region_walk<'a, C: Ledger>(
@@ -52,10 +26,30 @@ pub fn region_walk<'a, C: Ledger>(
     ensures grows { steps.old ≤ steps.new }
     ensures paid { MatchOption result (steps.new ≤ steps.old + most_words (served_map served.entry) 0 0) (λ w. steps.new + allowance w ≤ steps.old + most_words (served_map served.entry) 0 (length (rest w))) }
 {
-    match names::place_of(served, face, steps) {
-        Some(_place) => Some(RegionWalk { served }),
-        None => None,
-    }
+    let place = names::place_of(served, face, steps)?;
+    let regions = served.regions();
+    let region = regions.of_face(place, steps);
+    Some(RegionWalk::from(served, region))
+}
+
+/// The first region of the face at the one place, going up, that is also one of the face at the other.
+fn common_at<C: Ledger>(
+    served: Served<'_>,
+    first: usize,
+    second: usize,
+    steps: &mut Steps<C>,
+) -> Option<RegionId>
+    requires first { first ≤ length (contents_of_view served).faces }
+    requires second { second ≤ length (contents_of_view served).faces }
+    ensures region { option_map (λ r. r.0) result ≡ common_region (served_map served.entry) (face_at_place (contents_of_view served.entry) first) (face_at_place (contents_of_view served.entry) second) }
+    ensures some_steps { steps.old + 1 ≤ steps.new }
+    ensures cost { steps.new ≤ steps.old + (18 * line_digits (contents_of_view served.entry) + 136) }
+{
+    let regions = served.regions();
+    let one = regions.of_face(first, steps)?;
+    let other = regions.of_face(second, steps)?;
+    let round = regions.common(one, other, steps)?;
+    Some(RegionId(regions.id_of(round, steps)))
 }
 
 /// The first region of the one face, going up, that is also one of the other. The outer None where the map lacks one of
@@ -72,11 +66,7 @@ pub fn common<C: Ledger>(
     ensures least { IfSome result (λ region. IsSome region → steps.old + 1 ≤ steps.new) }
     ensures paid { MatchOption result (steps.new ≤ steps.old + most_words (served_map served.entry) 0 0) (λ region. steps.new ≤ steps.old + most_words (served_map served.entry) 0 (length (option_to_list region))) }
 {
-    let Some(_first) = names::place_of(served, first, steps) else {
-        return None;
-    };
-    let Some(_second) = names::place_of(served, second, steps) else {
-        return None;
-    };
-    Some(None)
+    let first_place = names::place_of(served, first, steps)?;
+    let second_place = names::place_of(served, second, steps)?;
+    Some(common_at(served, first_place, second_place, steps))
 }

@@ -19,8 +19,8 @@ use pemb_file::Served;
 use std::sync::ledger::Ledger;
 use topo_base::FaceId;
 
-/// The walk along the rings of the face at a place: its shell from the smallest signed edge on, which face 0 has not, and
-/// then the outer ring of each component in it.
+/// The walk along the rings of the face at a place: its shell from the smallest signed edge on, which face 0 has not,
+/// and then the outer ring of each component in it.
 pub(crate) fn rings_at<'a, C: Ledger>(
     served: Served<'a>,
     place: usize,

@@ -19,9 +19,10 @@ mod positions;
 mod rounds;
 mod search;
 mod unseen;
+mod upward;
 
 pub use across::AdjacentWalk;
-pub use common_region::{RegionWalk, common, region_walk};
+pub use common_region::{common, region_walk};
 pub use edges::{FaceEdges, NodeEdges, RingEdges, face_edges, node_edges, ring_edges};
 pub use face_rings::FaceWalk;
 pub use faces::face_walk;
@@ -31,6 +32,7 @@ pub use look_ups::{containing, ends, next, sides};
 pub use neighbours::adjacent_walk;
 pub use orbit_walk::{NodeWalk, RingWalk};
 pub use rounds::{node_walk, ring_walk};
+pub use upward::RegionWalk;
 
 #[cfg(test)]
 mod tests;

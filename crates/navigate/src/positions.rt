@@ -59,7 +59,8 @@ pub fn edge_at<C: Ledger>(served: Served<'_>, p: usize, steps: &mut Steps<C>) ->
     with_direction(id, is_first == forward)
 }
 
-/// The first position of a signed edge's edge, and whether it is the signed edge's own. None where the map lacks the edge.
+/// The first position of a signed edge's edge, and whether it is the signed edge's own. None where the map lacks the
+/// edge.
 fn first_position<C: Ledger>(
     served: Served<'_>,
     edge: Signed,

@@ -1,12 +1,13 @@
-//! Walks and look-ups over the file of a triangle: edges 1, 2 and 3 round face 1, nodes 1, 2 and 3.
+//! Walks and look-ups over the file of a triangle: edges 1, 2 and 3 round face 1, nodes 1, 2 and 3. Regions over the
+//! file of this triangle with more in it.
 
 ghost use Rattle.std.specs.Prelude.{◌≡◌, ◌<◌, length};
 ghost use Rattle.scratch_region.specs.Marks.{room_of, IsEmpty};
 ghost use Rattle.pemb_file.specs.Served.{contents_of_view};
 
 use crate::{
-    Island, adjacent_walk, containing, ends, face_walk, island_walk, next, node_walk, ring_edges,
-    ring_walk, sides,
+    Island, adjacent_walk, common, containing, ends, face_walk, island_walk, next, node_walk,
+    region_walk, ring_edges, ring_walk, sides,
 };
 use bit_words::Steps;
 use pemb_file::{Served, open};
@@ -15,7 +16,7 @@ use std::alloc::Global;
 use std::marker::Brand;
 use std::sync::ledger::{Blank, Ledger};
 use std::test::Fail;
-use topo_base::{FaceId, NodeId, Signed};
+use topo_base::{FaceId, NodeId, RegionId, Signed};
 
 /// The words of the file.
 fn words() -> [u64; 35] {
@@ -55,6 +56,57 @@ fn words() -> [u64; 35] {
         0,
         0,
         0,
+    ]
+}
+
+/// The words of the file of this triangle with a closed edge in it, 4 at node 4, round face 2, and node 5 in face 2.
+/// Face 1 is in region 2, which lies in region 1, and face 2 is in region 1.
+fn nested_words() -> [u64; 44] {
+    [
+        5715155150441366864,
+        0,
+        16428946874780189589,
+        358398784624327854,
+        15700949402493225439,
+        15286110560946408717,
+        4,
+        2,
+        2,
+        1,
+        2,
+        27,
+        17179869184,
+        3,
+        8589934592,
+        0,
+        5,
+        8589934592,
+        0,
+        25769803776,
+        8,
+        0,
+        17179869186,
+        12884901889,
+        5,
+        2,
+        4294967299,
+        4,
+        12884901889,
+        17179869186,
+        8589934592,
+        12884901889,
+        8589934593,
+        4294967296,
+        4294967296,
+        4294967296,
+        2,
+        3,
+        8589934592,
+        0,
+        8589934593,
+        4294967296,
+        8589934592,
+        1,
     ]
 }
 
@@ -204,6 +256,56 @@ fn neighbours<C: Ledger>(
     ])
 }
 
+/// What a walk up from the region of a face gives, three steps long.
+fn three_up<C: Ledger>(
+    served: Served<'_>,
+    face: FaceId,
+    steps: &mut Steps<C>,
+) -> Option<[Option<RegionId>; 3]> {
+    let mut walk = region_walk(served, face, steps)?;
+    Some([walk.step(steps), walk.step(steps), walk.step(steps)])
+}
+
+/// The regions of faces 0, 1, 2 and 7, the last of which the map lacks.
+fn regions_up<C: Ledger>(
+    alloc: Global,
+    bytes: &[u8],
+    blank: Blank,
+) -> Option<[Option<[Option<RegionId>; 3]>; 4]>
+    requires name { blank.name ≡ C.name }
+    requires parts { blank.parts ≡ C.parts }
+    requires some { 0 < blank.parts }
+{
+    let mut steps = Steps::<C>::new(alloc, blank);
+    let served = open(bytes, &mut steps).ok()?;
+    Some([
+        three_up(served, FaceId(0), &mut steps),
+        three_up(served, FaceId(1), &mut steps),
+        three_up(served, FaceId(2), &mut steps),
+        three_up(served, FaceId(7), &mut steps),
+    ])
+}
+
+/// The region that face 1 shares with each of faces 0, 1, 2 and 7.
+fn shared<C: Ledger>(
+    alloc: Global,
+    bytes: &[u8],
+    blank: Blank,
+) -> Option<[Option<Option<RegionId>>; 4]>
+    requires name { blank.name ≡ C.name }
+    requires parts { blank.parts ≡ C.parts }
+    requires some { 0 < blank.parts }
+{
+    let mut steps = Steps::<C>::new(alloc, blank);
+    let served = open(bytes, &mut steps).ok()?;
+    Some([
+        common(served, FaceId(0), FaceId(1), &mut steps),
+        common(served, FaceId(1), FaceId(1), &mut steps),
+        common(served, FaceId(1), FaceId(2), &mut steps),
+        common(served, FaceId(1), FaceId(7), &mut steps),
+    ])
+}
+
 #[test]
 fn walks_stepped_in_turn(rt: HostRuntime) -> Result<(), Fail> {
     let alloc = rt.alloc();
@@ -267,6 +369,29 @@ fn neighbours_come_twice_on_one_set_of_marks(rt: HostRuntime) -> Result<(), Fail
     assert_eq!(rt;
         neighbours::<Brand>(alloc, &bytes, Blank::new(1)),
         Some(want)
+    );
+    Ok(())
+}
+
+#[test]
+fn regions_are_walked_up_and_shared(rt: HostRuntime) -> Result<(), Fail> {
+    let alloc = rt.alloc();
+    let bytes = bytes(alloc, &nested_words())?;
+    let inner = Some(RegionId(2));
+    let outer = Some(RegionId(1));
+    let want = [
+        Some([None, None, None]),
+        Some([inner, outer, None]),
+        Some([outer, None, None]),
+        None,
+    ];
+    assert_eq!(rt;
+        regions_up::<Brand>(alloc, &bytes, Blank::new(1)),
+        Some(want)
+    );
+    assert_eq!(rt;
+        shared::<Brand>(alloc, &bytes, Blank::new(1)),
+        Some([Some(None), Some(inner), Some(outer), None])
     );
     Ok(())
 }

@@ -54,19 +54,20 @@ fn triangle() -> [u64; 35] {
 }
 
 /// The words of the file of this triangle with a closed edge in it, 4 at node 4, round face 2, and node 5 in face 2.
-fn island() -> [u64; 40] {
+/// Face 1 is in region 2, which lies in region 1, and face 2 is in region 1.
+fn island() -> [u64; 44] {
     [
         5715155150441366864,
         0,
-        17365894455740962519,
-        18428827423119229671,
-        15592337176950393143,
-        3849019757159623338,
+        16428946874780189589,
+        358398784624327854,
+        15700949402493225439,
+        15286110560946408717,
         4,
         2,
         2,
         1,
-        0,
+        2,
         27,
         17179869184,
         3,
@@ -93,9 +94,13 @@ fn island() -> [u64; 40] {
         4294967296,
         4294967296,
         2,
+        3,
+        8589934592,
         0,
-        0,
-        0,
+        8589934593,
+        4294967296,
+        8589934592,
+        1,
     ]
 }
 
@@ -149,7 +154,7 @@ const LINES: [(usize, u8, &[u8]); 6] = [
 
 const ANSWERS: &[u8] =
     b"face 1: 1 2 3 -4\nadjacent 1: 0 2\nadjacent 1: 0 2\nislands 1: -4\nislands 2: n5\ncontains 4: 1\n\
-contains 5: 2\nnode 5:\ncounts: 5 4 2 2 0\nnode 99: unknown\nbad\nbad\nregions 1:\ncommon 1 2:\nring 1: 1 2 3\n\
+contains 5: 2\nnode 5:\ncounts: 5 4 2 2 2\nnode 99: unknown\nbad\nbad\nregions 1: 2 1\ncommon 1 2: 1\nring 1: 1 2 3\n\
 ends 1: 1 2\nsides -4: 1 2\nbad\nlong\nlong\nlong\nlong\nnext 1: 2\n";
 
 /// A script of all these lines. The last one has no line feed.
