@@ -1,15 +1,15 @@
 -- What was read of a table, where the files are told.
-use Rattle.std.proofs.Common.{◌≡◌, ℕ, ◌≤◌, List, [], length, Option, Some, None, Result, Ok, Err, refl, sym, ap, subst, ◌∙◌, IfSome, IfOk, IfErr, IsErrAnd, IsTrue, OnOk, Vec, Global}
+use Rattle.std.proofs.Common.{◌≡◌, ℕ, ◌≤◌, List, [], length, Option, Some, None, Result, Ok, Err, refl, sym, ap, subst, ◌∙◌, IfSome, IfErr, IsErrAnd, IsTrue}
 use Rattle.std.proofs.lemmas.Bool.{lt-ltb, le-ltb}
-use Rattle.ports.specs.Outside.{Files}
+use Rattle.ports.specs.Outside.{Files, IsNotHeld}
 use Rattle.topo_base.specs.declared.refusal.Refusal.{Refusal}
 use Rattle.topo_csv.specs.declared.fault.CsvFault.{CsvFault}
 use Rattle.topo_csv.specs.declared.fault.CsvFault.TheVariants as csv
 use Rattle.topo_csv.specs.Fault.{IsFault}
 use Rattle.topo_cli.specs.Limits.{most_bytes}
 use Rattle.topo_cli.specs.Files.{IsWhole}
-use Rattle.topo_cli.specs.Tables.{◌>>=◌, Ending, table, read_by, read_or_missing, or_refused, loaded, checked, served, opened, opened_or_missing, unless_unlawful}
-use Rattle.topo_cli.specs.Words.{node_table, edge_table, face_table}
+use Rattle.topo_cli.specs.Tables.{◌>>=◌, Ending, optional_table, table, read_by, read_or_missing, read_or_none, or_refused, loaded, checked, served, opened, opened_or_missing, unless_unlawful}
+use Rattle.topo_cli.specs.Words.{node_table, edge_table, face_table, region_table, member_table}
 use Rattle.plane_model.specs.Rows.{Rows}
 use Rattle.plane_model.specs.InRange.{is_in_range}
 use Rattle.plane_model.specs.Consistent.{is_consistent}
@@ -20,8 +20,8 @@ use Rattle.plane_model.specs.declared.rows.EdgeRow.{EdgeRow}
 use Rattle.plane_model.specs.declared.rows.FaceRow.{FaceRow}
 use Rattle.plane_model.specs.declared.rows.RegionRow.{RegionRow}
 use Rattle.plane_model.specs.declared.rows.MemberRow.{MemberRow}
-use Rattle.plane_model.specs.Reading.{node_rows, edge_rows, face_rows}
-use Rattle.topo_cli.specs.Loading.{Builds, IsEnding, IsSameBuild, Ends, IsStopped, IsSame, NamesOnly}
+use Rattle.plane_model.specs.Reading.{node_rows, edge_rows, face_rows, region_rows, member_rows}
+use Rattle.topo_cli.specs.Loading.{Builds, IsEnding, IsSameBuild, Ends, IsStopped, IsSame, MissesNothing, NamesOnly}
 use Rattle.map_build.specs.BuildFaults.{Names as NamesFault}
 use Rattle.map_build.specs.declared.fault.BuildFault.{BuildFault}
 use Rattle.map_build.specs.declared.fault.BuildFault.TheVariants as build
@@ -66,6 +66,10 @@ pub err_and : {T E : Type 0} (r : Result T E) (P Q : E → Type 0) → IsErrAnd 
 err_and (Ok x) P Q is each = absurd is
 err_and (Err e) P Q is each = each e is
 
+-- what holds of the value that there is
+pub of_some : {A : Type 0} (o : Option A) (x : A) (P : A → Type 0) → o ≡ Some x → IfSome o P → P x
+of_some {A = A} o x P is h = let Q : Option A → Type 0 = λ p. IfSome p P in subst Q is h
+
 -- the same where the name and the bytes were handed on
 pub rows_at : {R : Type 0} (read : List ℕ → Result (List R) Refusal) (files : Option Files) (said name bytes seen : List ℕ) (rows : List R)
     → said ≡ name → seen ≡ bytes → IsWhole files said bytes → length bytes ≤ most_bytes → read seen ≡ Ok rows → IfSome files (λ f. table read f name ≡ Ok rows)
@@ -87,12 +91,57 @@ stopped_at read files said name e named stopped only =
     let Q : List ℕ → Type 0 = λ n. NamesOnly n e in
     table_stopped read files name e (subst P named stopped) (subst Q named only)
 
+-- the same of a table that a folder may lack
+held_optional : {R : Type 0} (read : List ℕ → Result (List R) Refusal) (files : Files) (name bytes : List ℕ) → files name ≡ Some bytes → length bytes ≤ most_bytes → optional_table read files name ≡ or_refused (read bytes)
+unfolding optional_table
+held_optional read files name bytes is h = ap (read_or_none read) is ∙ within read bytes h
+
+pub optional_none : {R : Type 0} (read : List ℕ → Result (List R) Refusal) (files : Option Files) (said name : List ℕ) → said ≡ name → IsNotHeld files said → IfSome files (λ f. optional_table read f name ≡ Ok [])
+unfolding optional_table
+optional_none read None said name named lacks = tt
+optional_none read (Some files) said name named lacks = ap (read_or_none read) (ap files (sym named) ∙ lacks)
+
+pub optional_rows : {R : Type 0} (read : List ℕ → Result (List R) Refusal) (files : Option Files) (said name bytes seen : List ℕ) (rows : List R)
+    → said ≡ name → seen ≡ bytes → IsWhole files said bytes → length bytes ≤ most_bytes → read seen ≡ Ok rows → IfSome files (λ f. optional_table read f name ≡ Ok rows)
+optional_rows read None said name bytes seen rows named same whole h is = tt
+optional_rows read (Some files) said name bytes seen rows named same whole h is = held_optional read files name bytes (ap files (sym named) ∙ whole) h ∙ ap or_refused (ap read (sym same) ∙ is)
+
+optional_fault : {R : Type 0} (read : List ℕ → Result (List R) Refusal) (files : Files) (name bytes : List ℕ) (why : CsvFault) (e : LoadFault)
+    → files name ≡ Some bytes → length bytes ≤ most_bytes → IsFault why (read bytes) → IsSame why e → IsEnding e (optional_table read files name)
+optional_fault read files name bytes (csv.Refused r) e whole h is same = rw same (held_optional read files name bytes whole h ∙ ap or_refused is)
+optional_fault read files name bytes csv.Memory e whole h is same = rw same tt
+
+pub optional_refused : {R : Type 0} (read : List ℕ → Result (List R) Refusal) (files : Option Files) (said name bytes seen : List ℕ) (why : CsvFault) (e : LoadFault)
+    → said ≡ name → seen ≡ bytes → IsWhole files said bytes → length bytes ≤ most_bytes → IsFault why (read seen) → IsSame why e → Ends files (λ f. optional_table read f name) e
+optional_refused read None said name bytes seen why e named same whole h is so = tt
+optional_refused read (Some files) said name bytes seen why e named same whole h is so =
+    let P : List ℕ → Type 0 = λ n. IsFault why (read n) in
+    optional_fault read files name bytes why e (ap files (sym named) ∙ whole) h (subst P same is) so
+
+optional_stop : {R : Type 0} (read : List ℕ → Result (List R) Refusal) (files : Option Files) (name : List ℕ) (e : LoadFault)
+    → IsStopped files name e → MissesNothing e → Ends files (λ f. optional_table read f name) e
+unfolding optional_table
+optional_stop read None name e stopped named = tt
+optional_stop read (Some files) name (fault.Missing said) stopped named = absurd named
+optional_stop read (Some files) name fault.ReadFault stopped named = tt
+optional_stop read (Some files) name fault.TooLong stopped named = ap (read_or_none read) stopped.1 ∙ rw (lt-ltb most_bytes (length stopped.0) stopped.2) refl
+optional_stop read (Some files) name (fault.Refused r) stopped named = absurd stopped
+optional_stop read (Some files) name (fault.Unlawful g) stopped named = absurd stopped
+optional_stop read (Some files) name fault.Memory stopped named = tt
+
+pub optional_stopped : {R : Type 0} (read : List ℕ → Result (List R) Refusal) (files : Option Files) (said name : List ℕ) (e : LoadFault)
+    → said ≡ name → IsStopped files said e → MissesNothing e → Ends files (λ f. optional_table read f name) e
+optional_stopped read files said name e named stopped nothing =
+    let P : List ℕ → Type 0 = λ n. IsStopped files n e in
+    optional_stop read files name e (subst P named stopped) nothing
+
 pub loaded_rows : (files : Option Files) (dir : List ℕ) (nodes : List NodeRow) (edges : List EdgeRow) (faces : List FaceRow) (regions : List RegionRow) (members : List MemberRow)
-    → regions ≡ [] → members ≡ [] → IfSome files (λ f. table node_rows f (node_table dir) ≡ Ok nodes) → IfSome files (λ f. table edge_rows f (edge_table dir) ≡ Ok edges) → IfSome files (λ f. table face_rows f (face_table dir) ≡ Ok faces)
+    → IfSome files (λ f. table node_rows f (node_table dir) ≡ Ok nodes) → IfSome files (λ f. table edge_rows f (edge_table dir) ≡ Ok edges) → IfSome files (λ f. table face_rows f (face_table dir) ≡ Ok faces)
+    → IfSome files (λ f. optional_table region_rows f (region_table dir) ≡ Ok regions) → IfSome files (λ f. optional_table member_rows f (member_table dir) ≡ Ok members)
     → IfSome files (λ f. loaded f dir ≡ Ok (record { nodes = nodes; edges = edges; faces = faces; regions = regions; members = members }))
 unfolding loaded
-loaded_rows None dir nodes edges faces regions members r m n e f = tt
-loaded_rows (Some files) dir nodes edges faces regions members r m n e f = rw (n, e, f, r, m) refl
+loaded_rows None dir nodes edges faces regions members n e f r m = tt
+loaded_rows (Some files) dir nodes edges faces regions members n e f r m = rw (n, e, f, r, m) refl
 
 -- an ending of one table is that of all
 ended : {A B : Type 0} (e : LoadFault) (r : Result A Ending) (next : A → Result B Ending) → IsEnding e r → IsEnding e (r >>= next)
@@ -120,6 +169,20 @@ pub ends_at_faces : (files : Option Files) (dir : List ℕ) (nodes : List NodeRo
 unfolding loaded
 ends_at_faces None dir nodes edges e n k is = tt
 ends_at_faces (Some files) dir nodes edges e n k is = rw (n, k) (ended e (table face_rows files (face_table dir)) _ is)
+
+pub ends_at_regions : (files : Option Files) (dir : List ℕ) (nodes : List NodeRow) (edges : List EdgeRow) (faces : List FaceRow) (e : LoadFault)
+    → IfSome files (λ f. table node_rows f (node_table dir) ≡ Ok nodes) → IfSome files (λ f. table edge_rows f (edge_table dir) ≡ Ok edges) → IfSome files (λ f. table face_rows f (face_table dir) ≡ Ok faces)
+    → Ends files (λ f. optional_table region_rows f (region_table dir)) e → Ends files (λ f. loaded f dir) e
+unfolding loaded
+ends_at_regions None dir nodes edges faces e n k f is = tt
+ends_at_regions (Some files) dir nodes edges faces e n k f is = rw (n, k, f) (ended e (optional_table region_rows files (region_table dir)) _ is)
+
+pub ends_at_members : (files : Option Files) (dir : List ℕ) (nodes : List NodeRow) (edges : List EdgeRow) (faces : List FaceRow) (regions : List RegionRow) (e : LoadFault)
+    → IfSome files (λ f. table node_rows f (node_table dir) ≡ Ok nodes) → IfSome files (λ f. table edge_rows f (edge_table dir) ≡ Ok edges) → IfSome files (λ f. table face_rows f (face_table dir) ≡ Ok faces)
+    → IfSome files (λ f. optional_table region_rows f (region_table dir) ≡ Ok regions) → Ends files (λ f. optional_table member_rows f (member_table dir)) e → Ends files (λ f. loaded f dir) e
+unfolding loaded
+ends_at_members None dir nodes edges faces regions e n k f r is = tt
+ends_at_members (Some files) dir nodes edges faces regions e n k f r is = rw (n, k, f, r) (ended e (optional_table member_rows files (member_table dir)) _ is)
 
 -- consistent tables pass the checks
 pub checked_is : (t : Rows) → IsTrue (is_in_range t) → IsTrue (is_consistent t) → checked t ≡ Ok t

@@ -42,6 +42,12 @@ NamesOnly name (fault.Missing named) = string_bytes named ≡ name
 NamesOnly name (fault.Unlawful e) = ⊥
 NamesOnly name e = ⊤
 
+-- nothing is missing, and no file is unlawful
+abbrev pub MissesNothing : LoadFault → Type 0
+MissesNothing (fault.Missing name) = ⊥
+MissesNothing (fault.Unlawful e) = ⊥
+MissesNothing e = ⊤
+
 -- what is missing is one of the names that a folder needs, and no file is unlawful
 abbrev pub NamesNeeded : List ℕ → LoadFault → Type 0
 NamesNeeded dir (fault.Missing name) = IsTable dir (string_bytes name)

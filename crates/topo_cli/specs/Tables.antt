@@ -3,13 +3,13 @@ use Rattle.std.specs.Prelude.{◌≡◌, ℕ, ◌⊎◌, nat_lt, if◌then◌els
 use Rattle.ports.specs.Outside.{Files}
 use Rattle.topo_base.specs.declared.refusal.Refusal.{Refusal}
 use Rattle.plane_model.specs.Rows.{Rows}
-use Rattle.plane_model.specs.Reading.{node_rows, edge_rows, face_rows}
+use Rattle.plane_model.specs.Reading.{node_rows, edge_rows, face_rows, region_rows, member_rows}
 use Rattle.plane_model.specs.Faults.{first_fault}
 use Rattle.map_maker.specs.Grid.{grid_of}
 use Rattle.topo_cli.specs.Limits.{most_bytes}
 use Rattle.pemb_file.specs.Lawful.{first_fault as file_fault, map_of_file}
 use Rattle.pemb_file.specs.declared.fault.FileFault.{FileFault}
-use Rattle.topo_cli.specs.Words.{Form, node_table, edge_table, face_table}
+use Rattle.topo_cli.specs.Words.{Form, node_table, edge_table, face_table, region_table, member_table}
 
 -- why there are no tables
 pub data Ending : Type 0 where
@@ -43,6 +43,14 @@ read_or_missing read name (Some bytes) = read_by read bytes
 unfoldable pub table : {A : Type 0} → (List ℕ → Result A Refusal) → Files → List ℕ → Result A Ending
 table read files name = read_or_missing read name (files name)
 
+abbrev pub read_or_none : {R : Type 0} → (List ℕ → Result (List R) Refusal) → Option (List ℕ) → Result (List R) Ending
+read_or_none read None = Ok []
+read_or_none read (Some bytes) = read_by read bytes
+
+-- the same of a table that a folder may lack, which then has no rows
+unfoldable pub optional_table : {R : Type 0} → (List ℕ → Result (List R) Refusal) → Files → List ℕ → Result (List R) Ending
+optional_table read files name = read_or_none read (files name)
+
 abbrev pub unless_fault : Rows → Option Refusal → Result Rows Ending
 unless_fault t None = Ok t
 unless_fault t (Some e) = Err (Refused e)
@@ -57,7 +65,9 @@ loaded files dir = do
   nodes ← table node_rows files (node_table dir)
   edges ← table edge_rows files (edge_table dir)
   faces ← table face_rows files (face_table dir)
-  Ok (record { nodes = nodes; edges = edges; faces = faces; regions = []; members = [] })
+  regions ← optional_table region_rows files (region_table dir)
+  members ← optional_table member_rows files (member_table dir)
+  Ok (record { nodes = nodes; edges = edges; faces = faces; regions = regions; members = members })
 
 -- the tables, where they are all read and consistent
 abbrev pub served : Files → List ℕ → Result Rows Ending

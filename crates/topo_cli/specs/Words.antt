@@ -60,3 +60,10 @@ edge_table dir = dir ++ codes "/edge.csv"
 
 abbrev pub face_table : List ℕ → List ℕ
 face_table dir = dir ++ codes "/face.csv"
+
+-- a folder may lack these two
+abbrev pub region_table : List ℕ → List ℕ
+region_table dir = dir ++ codes "/region.csv"
+
+abbrev pub member_table : List ℕ → List ℕ
+member_table dir = dir ++ codes "/member.csv"

@@ -1,24 +1,24 @@
 //! Loading the tables of a folder, or a built file.
 
-ghost use Rattle.std.specs.Prelude.{◌≡◌, ◌≤◌, ◌++◌, [], IfOk, IfErr, IfSome, IsTrue, Ok, codes, length, string_bytes, true, ◌&&◌};
+ghost use Rattle.std.specs.Prelude.{◌≡◌, ◌≤◌, ◌++◌, IfOk, IfErr, IfSome, IsTrue, MatchOption, Ok, codes, length, string_bytes, true, ◌&&◌};
 ghost use Rattle.std.specs.List.{list_all};
-ghost use Rattle.ports.specs.Outside.{Files, Rose};
+ghost use Rattle.ports.specs.Outside.{Files, IsNotHeld, Rose};
 ghost use Rattle.plane_model.specs.InRange.{is_edge_in_range, is_face_id, is_id, is_in_range, is_none_or};
-ghost use Rattle.plane_model.specs.Reading.{edge_rows, face_rows, node_rows};
+ghost use Rattle.plane_model.specs.Reading.{edge_rows, face_rows, member_rows, node_rows, region_rows};
 ghost use Rattle.plane_model.specs.Rows.{rows_of};
 ghost use Rattle.topo_cli.specs.Files.{IsWhole};
-ghost use Rattle.topo_cli.specs.Loading.{Builds, Ends, IsShown, IsStopped, NamesFile, NamesNeeded, NamesOnly};
+ghost use Rattle.topo_cli.specs.Loading.{Builds, Ends, IsShown, IsStopped, MissesNothing, NamesFile, NamesNeeded, NamesOnly};
 ghost use Rattle.topo_cli.specs.Limits.{most_bytes};
-ghost use Rattle.topo_cli.specs.Tables.{loaded, opened, served, table};
-ghost use Rattle.topo_cli.specs.Words.{edge_table, face_table, node_table};
+ghost use Rattle.topo_cli.specs.Tables.{loaded, opened, optional_table, served, table};
+ghost use Rattle.topo_cli.specs.Words.{edge_table, face_table, member_table, node_table, region_table};
 
 use crate::files::{FileFault, read_file};
 use map_build::{BuildFault, build};
-use plane_model::{EdgeRow, FaceRow, NodeRow, Tables};
+use plane_model::{EdgeRow, FaceRow, MemberRow, NodeRow, RegionRow, Tables};
 use ports::Shelf;
 use std::alloc::{AllocError, Global};
 use topo_base::Refusal;
-use topo_csv::{CsvFault, read_edges, read_faces, read_nodes};
+use topo_csv::{CsvFault, read_edges, read_faces, read_members, read_nodes, read_regions};
 
 /// Why tables or a file can't be loaded.
 #[derive(Debug, Drop)]
@@ -99,6 +99,29 @@ pub fn held_bytes<H: Shelf>(
     }
 }
 
+/// The bytes of a table that a folder may lack.
+fn optional_bytes<H: Shelf>(
+    alloc: Global,
+    shelf: &mut H,
+    name: String,
+) -> Result<Option<Vec<u8>>, LoadFault>
+    ensures whole { IfOk result (λ found. MatchOption found (IsNotHeld (H.files shelf.old) (string_bytes name)) (λ bytes. IsWhole (H.files shelf.old) (string_bytes name) bytes.items)) }
+    ensures short { IfOk result (λ found. IfSome found (λ bytes. length bytes.items ≤ most_bytes)) }
+    ensures named { IfErr result MissesNothing }
+    ensures stopped { IfErr result (IsStopped (H.files shelf.old) (string_bytes name)) }
+    ensures shown { IfErr result (λ e. IsShown e (H.misses shelf.old) (H.misses shelf.new) (H.faults shelf.old) (H.faults shelf.new)) }
+    ensures kept { H.files shelf.new ≡ H.files shelf.old }
+    ensures never_falls { H.faults shelf.old ≤ H.faults shelf.new }
+    ensures misses_never_fall { H.misses shelf.old ≤ H.misses shelf.new }
+    ensures no_write_fault { H.write_faults shelf.new ≡ H.write_faults shelf.old }
+{
+    match held_bytes(alloc, shelf, name) {
+        Ok(bytes) => Ok(Some(bytes)),
+        Err(LoadFault::Missing(_)) => Ok(None),
+        Err(fault) => Err(fault),
+    }
+}
+
 /// The rows of a folder's node table.
 fn load_nodes<H: Shelf>(alloc: Global, shelf: &mut H, dir: &str) -> Result<Vec<NodeRow>, LoadFault>
     ensures rows { IfOk result (λ rows. IfSome (H.files shelf.old) (λ files. table node_rows files (node_table dir.now) ≡ Ok rows.items)) }
@@ -153,12 +176,58 @@ fn load_faces<H: Shelf>(alloc: Global, shelf: &mut H, dir: &str) -> Result<Vec<F
     Ok(read_faces(alloc, &bytes)?)
 }
 
-/// The tables of a folder, in range; it has no regions yet.
+/// The rows of a folder's region table, or none where it has no such table.
+fn load_regions<H: Shelf>(
+    alloc: Global,
+    shelf: &mut H,
+    dir: &str,
+) -> Result<Vec<RegionRow>, LoadFault>
+    ensures rows { IfOk result (λ rows. IfSome (H.files shelf.old) (λ files. optional_table region_rows files (region_table dir.now) ≡ Ok rows.items)) }
+    ensures in_range { IfOk result (λ rows. IsTrue (list_all (λ r. is_id r.id && is_none_or is_id r.parent) rows.items)) }
+    ensures few { IfOk result (λ rows. length rows.items ≤ 16_777_216) }
+    ensures ends { IfErr result (Ends (H.files shelf.old) (λ files. optional_table region_rows files (region_table dir.now))) }
+    ensures named { IfErr result MissesNothing }
+    ensures shown { IfErr result (λ e. IsShown e (H.misses shelf.old) (H.misses shelf.new) (H.faults shelf.old) (H.faults shelf.new)) }
+    ensures kept { H.files shelf.new ≡ H.files shelf.old }
+    ensures never_falls { H.faults shelf.old ≤ H.faults shelf.new }
+    ensures misses_never_fall { H.misses shelf.old ≤ H.misses shelf.new }
+    ensures no_write_fault { H.write_faults shelf.new ≡ H.write_faults shelf.old }
+{
+    let name = format!(in alloc; "{dir}/region.csv")?;
+    match optional_bytes(alloc, shelf, name)? {
+        Some(bytes) => Ok(read_regions(alloc, &bytes)?),
+        None => Ok(Vec::new(alloc)),
+    }
+}
+
+/// The rows of a folder's member table, or none where it has no such table.
+fn load_members<H: Shelf>(
+    alloc: Global,
+    shelf: &mut H,
+    dir: &str,
+) -> Result<Vec<MemberRow>, LoadFault>
+    ensures rows { IfOk result (λ rows. IfSome (H.files shelf.old) (λ files. optional_table member_rows files (member_table dir.now) ≡ Ok rows.items)) }
+    ensures in_range { IfOk result (λ rows. IsTrue (list_all (λ r. is_id r.region && is_face_id r.face) rows.items)) }
+    ensures few { IfOk result (λ rows. length rows.items ≤ 16_777_217) }
+    ensures ends { IfErr result (Ends (H.files shelf.old) (λ files. optional_table member_rows files (member_table dir.now))) }
+    ensures named { IfErr result MissesNothing }
+    ensures shown { IfErr result (λ e. IsShown e (H.misses shelf.old) (H.misses shelf.new) (H.faults shelf.old) (H.faults shelf.new)) }
+    ensures kept { H.files shelf.new ≡ H.files shelf.old }
+    ensures never_falls { H.faults shelf.old ≤ H.faults shelf.new }
+    ensures misses_never_fall { H.misses shelf.old ≤ H.misses shelf.new }
+    ensures no_write_fault { H.write_faults shelf.new ≡ H.write_faults shelf.old }
+{
+    let name = format!(in alloc; "{dir}/member.csv")?;
+    match optional_bytes(alloc, shelf, name)? {
+        Some(bytes) => Ok(read_members(alloc, &bytes)?),
+        None => Ok(Vec::new(alloc)),
+    }
+}
+
+/// The tables of a folder, in range. The region and the member table may be missing.
 pub fn load_tables<H: Shelf>(alloc: Global, shelf: &mut H, dir: &str) -> Result<Tables, LoadFault>
     ensures loaded { IfOk result (λ tables. IfSome (H.files shelf.old) (λ files. loaded files dir.now ≡ Ok (rows_of tables))) }
     ensures in_range { IfOk result (λ tables. IsTrue (is_in_range (rows_of tables))) }
-    ensures no_regions { IfOk result (λ tables. (rows_of tables).regions ≡ []) }
-    ensures no_members { IfOk result (λ tables. (rows_of tables).members ≡ []) }
     ensures ends { IfErr result (Ends (H.files shelf.old) (λ files. loaded files dir.now)) }
     ensures named { IfErr result (NamesNeeded dir.now) }
     ensures shown { IfErr result (λ e. IsShown e (H.misses shelf.old) (H.misses shelf.new) (H.faults shelf.old) (H.faults shelf.new)) }
@@ -170,12 +239,14 @@ pub fn load_tables<H: Shelf>(alloc: Global, shelf: &mut H, dir: &str) -> Result<
     let nodes = load_nodes(alloc, shelf, dir)?;
     let edges = load_edges(alloc, shelf, dir)?;
     let faces = load_faces(alloc, shelf, dir)?;
+    let regions = load_regions(alloc, shelf, dir)?;
+    let members = load_members(alloc, shelf, dir)?;
     Ok(Tables {
         nodes,
         edges,
         faces,
-        regions: Vec::new(alloc),
-        members: Vec::new(alloc),
+        regions,
+        members,
     })
 }
 

@@ -1,6 +1,6 @@
-//! Answers questions on a map from its PostGIS Topology tables, `tackcherry ask DIR < SCRIPT`; puts the map into a file,
-//! `tackcherry build DIR FILE`; answers from that file, `tackcherry query FILE < SCRIPT`; tells whether a file is lawful,
-//! `tackcherry check FILE`; and tries itself on a grid, `tackcherry trial N`.
+//! Answers questions on a map from its PostGIS Topology tables, `tackcherry ask DIR < SCRIPT`; puts the map into a
+//! file, `tackcherry build DIR FILE`; answers from that file, `tackcherry query FILE < SCRIPT`; tells whether a file is
+//! lawful, `tackcherry check FILE`; and tries itself on a grid, `tackcherry trial N`.
 #![tactic(auto)]
 
 ghost use Rattle.std.specs.Prelude.{◌≡◌, ◌<◌, ℕ, IfOk, drop, map, string_bytes};

@@ -15,30 +15,37 @@ use std::test::Fail;
 
 /// The node, edge and face tables of a folder; the last may be missing.
 #[derive(Clone, Copy)]
-struct Folder {
-    nodes: &'static str,
-    edges: &'static str,
-    faces: Option<&'static str>,
+struct Folder<'a> {
+    nodes: &'a str,
+    edges: &'a str,
+    faces: Option<&'a str>,
 }
 
 /// What a script over a folder has to end in.
 #[derive(Clone, Copy)]
-struct Case {
+struct Case<'a> {
     shows: &'static str,
-    folder: Folder,
+    folder: Folder<'a>,
     script: &'static [u8],
     status: Status,
     out: &'static str,
 }
 
-const TRIANGLE: Folder = Folder {
+const TRIANGLE: Folder<'static> = Folder {
     nodes: "node_id,containing_face\n1,\n2,\n3,\n",
     edges: "edge_id,start_node,end_node,next_left_edge,next_right_edge,left_face,right_face\n\
             1,1,2,2,-3,1,0\n2,2,3,3,-1,1,0\n3,3,1,1,-2,1,0\n",
     faces: Some("face_id\n0\n1\n"),
 };
 
-const CASES: [Case; 31] = [
+const ISLE: Folder<'static> = Folder {
+    nodes: "node_id,containing_face\n1,\n2,\n3,\n4,\n5,2\n",
+    edges: "edge_id,start_node,end_node,next_left_edge,next_right_edge,left_face,right_face\n\
+            1,1,2,2,-3,1,0\n2,2,3,3,-1,1,0\n3,3,1,1,-2,1,0\n4,4,4,4,-4,2,1\n",
+    faces: Some("face_id\n0\n1\n2\n"),
+};
+
+const CASES: [Case<'static>; 31] = [
     Case {
         shows: "rings, faces and islands of the triangle",
         folder: TRIANGLE,
@@ -67,12 +74,7 @@ const CASES: [Case; 31] = [
     },
     Case {
         shows: "an isolated node and a closed edge in a face",
-        folder: Folder {
-            nodes: "node_id,containing_face\n1,\n2,\n3,\n4,\n5,2\n",
-            edges: "edge_id,start_node,end_node,next_left_edge,next_right_edge,left_face,right_face\n\
-            1,1,2,2,-3,1,0\n2,2,3,3,-1,1,0\n3,3,1,1,-2,1,0\n4,4,4,4,-4,2,1\n",
-            faces: Some("face_id\n0\n1\n2\n"),
-        },
+        folder: ISLE,
         script: b"face 1\nadjacent 1\nadjacent 1\nislands 1\nislands 2\nnode 5\nnode 4\nring -4\nsides 4\ncontains 4\ncontains 5\ncontains 6\nregions 1\ncommon 1 2\ncommon 1 9\ncounts\n",
         status: Status::Done,
         out: "face 1: 1 2 3 -4\nadjacent 1: 0 2\nadjacent 1: 0 2\nislands 1: -4\nislands 2: n5\nnode 5:\nnode 4: 4 -4\nring -4: -4\nsides 4: 2 1\ncontains 4: 1\ncontains 5: 2\ncontains 6: unknown\nregions 1:\ncommon 1 2:\ncommon 1 9: unknown\ncounts: 5 4 2 2 0\n",
@@ -380,6 +382,151 @@ const CASES: [Case; 31] = [
     },
 ];
 
+/// The region and the member table of a folder, which may be missing, and what a script over it has to end in.
+#[derive(Clone, Copy)]
+struct RegionCase<'a> {
+    regions: Option<&'a str>,
+    members: Option<&'a str>,
+    case: Case<'a>,
+}
+
+const REGION_CASES: [RegionCase<'static>; 12] = [
+    RegionCase {
+        regions: Some("region_id,parent\n1,\n2,1\n"),
+        members: Some("region_id,face_id\n2,1\n1,2\n"),
+        case: Case {
+            shows: "regions that nest, and a face without one",
+            folder: ISLE,
+            script: b"regions 1\nregions 2\nregions 0\ncommon 1 2\ncommon 2 1\ncommon 0 1\n\
+            common 1 9\nregions 3\ncounts\n",
+            status: Status::Done,
+            out: "regions 1: 2 1\nregions 2: 1\nregions 0:\ncommon 1 2: 1\ncommon 2 1: 1\ncommon 0 1:\n\
+            common 1 9: unknown\nregions 3: unknown\ncounts: 5 4 2 2 2\n",
+        },
+    },
+    RegionCase {
+        regions: Some("region_id,parent\n1,\n2,\n"),
+        members: Some("region_id,face_id\n1,0\n2,1\n"),
+        case: Case {
+            shows: "two roots, one of them with face 0",
+            folder: TRIANGLE,
+            script: b"common 0 1\nregions 0\nregions 1\ncommon 0 0\ncounts\n",
+            status: Status::Done,
+            out: "common 0 1:\nregions 0: 1\nregions 1: 2\ncommon 0 0: 1\ncounts: 3 3 1 1 2\n",
+        },
+    },
+    RegionCase {
+        regions: Some("parent,name,region_id\n7,a,2147483647\n,\"b, c\",7\n"),
+        members: None,
+        case: Case {
+            shows: "regions without a member table, named with gaps",
+            folder: TRIANGLE,
+            script: b"regions 1\ncounts\n",
+            status: Status::Done,
+            out: "regions 1:\ncounts: 3 3 1 1 2\n",
+        },
+    },
+    RegionCase {
+        regions: Some("region_id,parent\n1,1\n"),
+        members: None,
+        case: Case {
+            shows: "a region that is its own parent",
+            folder: TRIANGLE,
+            script: b"regions 1\n",
+            status: Status::TablesRefused,
+            out: "refused F21 region=1\n",
+        },
+    },
+    RegionCase {
+        regions: Some("region_id,parent\n1,2\n2,1\n"),
+        members: Some("region_id,face_id\n2,1\n1,2\n"),
+        case: Case {
+            shows: "regions that are parents of each other",
+            folder: ISLE,
+            script: b"regions 1\n",
+            status: Status::TablesRefused,
+            out: "refused F21 region=1\n",
+        },
+    },
+    RegionCase {
+        regions: Some("region_id,parent\n1,\n1,\n"),
+        members: None,
+        case: Case {
+            shows: "two rows for a region",
+            folder: TRIANGLE,
+            script: b"regions 1\n",
+            status: Status::TablesRefused,
+            out: "refused F7 table=region id=1\n",
+        },
+    },
+    RegionCase {
+        regions: Some("region_id,parent\n1,9\n"),
+        members: None,
+        case: Case {
+            shows: "a parent without a row",
+            folder: TRIANGLE,
+            script: b"regions 1\n",
+            status: Status::TablesRefused,
+            out: "refused F20 table=region id=1 region=9\n",
+        },
+    },
+    RegionCase {
+        regions: None,
+        members: Some("region_id,face_id\n1,1\n"),
+        case: Case {
+            shows: "a member of a region without a row, with no region table",
+            folder: TRIANGLE,
+            script: b"regions 1\n",
+            status: Status::TablesRefused,
+            out: "refused F20 table=member id=1 region=1\n",
+        },
+    },
+    RegionCase {
+        regions: Some("region_id,parent\n1,\n"),
+        members: Some("region_id,face_id\n1,9\n"),
+        case: Case {
+            shows: "a member whose face has no row",
+            folder: TRIANGLE,
+            script: b"regions 1\n",
+            status: Status::TablesRefused,
+            out: "refused F10 table=member id=1 face=9\n",
+        },
+    },
+    RegionCase {
+        regions: Some("region_id,parent\n1,\n"),
+        members: Some("region_id,face_id\n1,1\n1,1\n"),
+        case: Case {
+            shows: "a face that is a member twice",
+            folder: TRIANGLE,
+            script: b"regions 1\n",
+            status: Status::TablesRefused,
+            out: "refused F22 face=1\n",
+        },
+    },
+    RegionCase {
+        regions: Some("region_id,parent\n1,\n"),
+        members: Some("region_id,face_id\n1,x\n"),
+        case: Case {
+            shows: "a face that is no number in the member table",
+            folder: TRIANGLE,
+            script: b"regions 1\n",
+            status: Status::TablesRefused,
+            out: "refused F4 table=member row=1 column=face_id\n",
+        },
+    },
+    RegionCase {
+        regions: Some("region_id\n"),
+        members: Some("face_id\n"),
+        case: Case {
+            shows: "the region table is read before the member table",
+            folder: TRIANGLE,
+            script: b"regions 1\n",
+            status: Status::TablesRefused,
+            out: "refused F1 table=region column=parent\n",
+        },
+    },
+];
+
 /// These words as strings.
 fn strings(alloc: Global, words: &[&str]) -> Result<Vec<String>, AllocError> {
     let mut strings = Vec::new(alloc);
@@ -405,7 +552,7 @@ fn run_words<H: Shelf, S: Source, K: Sink, L: Ledger>(
 /// A shelf that holds a folder's tables under `maps`.
 fn shelf_of<'a>(
     alloc: Global,
-    folder: &Folder,
+    folder: &Folder<'_>,
     failing: &'a [u64],
 ) -> Result<MemoryShelf<'a>, Fail> {
     let mut shelf = MemoryShelf::new(alloc, failing);
@@ -417,11 +564,23 @@ fn shelf_of<'a>(
     Ok(shelf)
 }
 
+/// The same with the region and the member table.
+fn shelf_with_regions(alloc: Global, case: &RegionCase<'_>) -> Result<MemoryShelf<'static>, Fail> {
+    let mut shelf = shelf_of(alloc, &case.case.folder, &[])?;
+    if let Some(regions) = case.regions {
+        shelf.add("maps/region.csv", regions.as_bytes())?;
+    }
+    if let Some(members) = case.members {
+        shelf.add("maps/member.csv", members.as_bytes())?;
+    }
+    Ok(shelf)
+}
+
 /// Whether these words, over the shelf and the script of a case, end as it has to.
 fn answers_well<L: Ledger>(
     alloc: Global,
     words: &[&str],
-    case: &Case,
+    case: &Case<'_>,
     shelf: &mut MemoryShelf<'_>,
     steps: &mut Steps<L>,
 ) -> Result<bool, Fail> {
@@ -444,17 +603,21 @@ fn build<L: Ledger>(
 }
 
 /// Whether a case ends as it has to, from the tables and from the file that is built of them.
-fn ends_well<L: Ledger>(alloc: Global, case: &Case, steps: &mut Steps<L>) -> Result<bool, Fail> {
-    let mut shelf = shelf_of(alloc, &case.folder, &[])?;
-    let asked = answers_well(alloc, &["ask", "maps"], case, &mut shelf, steps)?;
-    if build(alloc, &mut shelf, steps)? != case.status {
+fn ends_well<L: Ledger>(
+    alloc: Global,
+    case: &Case<'_>,
+    shelf: &mut MemoryShelf<'_>,
+    steps: &mut Steps<L>,
+) -> Result<bool, Fail> {
+    let asked = answers_well(alloc, &["ask", "maps"], case, shelf, steps)?;
+    if build(alloc, shelf, steps)? != case.status {
         return Ok(false);
     }
     if case.status != Status::Done {
         return Ok(asked);
     }
     let words = ["query", "map.pemb"];
-    Ok(asked && answers_well(alloc, &words, case, &mut shelf, steps)?)
+    Ok(asked && answers_well(alloc, &words, case, shelf, steps)?)
 }
 
 /// What the first case shows that doesn't end as it has to.
@@ -465,7 +628,8 @@ fn first_wrong<L: Ledger>(alloc: Global, blank: Blank) -> Result<Option<&'static
 {
     let mut steps = Steps::<L>::new(alloc, blank);
     for case in &CASES {
-        if !ends_well(alloc, case, &mut steps)? {
+        let mut shelf = shelf_of(alloc, &case.folder, &[])?;
+        if !ends_well(alloc, case, &mut shelf, &mut steps)? {
             return Ok(Some(case.shows));
         }
     }
@@ -476,6 +640,122 @@ fn first_wrong<L: Ledger>(alloc: Global, blank: Blank) -> Result<Option<&'static
 fn scripts_over_folders_end_as_they_have_to(rt: HostRuntime) -> Result<(), Fail> {
     let wrong = first_wrong::<Brand>(rt.alloc(), Blank::new(1))?;
     assert_eq!(rt; wrong, None);
+    Ok(())
+}
+
+/// What the first case of regions shows that doesn't end as it has to.
+fn first_wrong_region<L: Ledger>(alloc: Global, blank: Blank) -> Result<Option<&'static str>, Fail>
+    requires name { blank.name ≡ L.name }
+    requires parts { blank.parts ≡ L.parts }
+    requires some { 0 < blank.parts }
+{
+    let mut steps = Steps::<L>::new(alloc, blank);
+    for case in &REGION_CASES {
+        let mut shelf = shelf_with_regions(alloc, case)?;
+        if !ends_well(alloc, &case.case, &mut shelf, &mut steps)? {
+            return Ok(Some(case.case.shows));
+        }
+    }
+    Ok(None)
+}
+
+#[test]
+fn regions_are_read_and_answered(rt: HostRuntime) -> Result<(), Fail> {
+    let wrong = first_wrong_region::<Brand>(rt.alloc(), Blank::new(1))?;
+    assert_eq!(rt; wrong, None);
+    Ok(())
+}
+
+/// The tables of 1,000 closed edges side by side in face 0, and of 1,000 regions.
+#[derive(Drop)]
+struct ManyRegions {
+    nodes: String,
+    edges: String,
+    faces: String,
+    regions: String,
+    members: String,
+}
+
+/// The id of a region: no two from 1 to 1,000 have the same.
+fn region_id(number: u32) -> u32
+    requires { number ≤ 1000 }
+{
+    number * 617 % 1009
+}
+
+/// Edge k goes round face k. The parent of region k is region k / 10, and most faces are in a region.
+fn many_regions(alloc: Global) -> Result<ManyRegions, AllocError> {
+    let mut nodes = String::from_str(alloc, "node_id,containing_face\n")?;
+    let mut edges = String::from_str(
+        alloc,
+        "edge_id,start_node,end_node,next_left_edge,next_right_edge,left_face,right_face\n",
+    )?;
+    let mut faces = String::from_str(alloc, "face_id\n")?;
+    let mut regions = String::from_str(alloc, "region_id,parent\n")?;
+    let mut members = String::from_str(alloc, "region_id,face_id\n631,0\n")?;
+    for k in 1..1001 {
+        nodes.push_str(format!(in alloc; "{k},\n")?.as_str())?;
+        edges.push_str(format!(in alloc; "{k},{k},{k},{k},-{k},{k},0\n")?.as_str())?;
+        faces.push_str(format!(in alloc; "{k}\n")?.as_str())?;
+        let region = region_id(k);
+        if k < 10 {
+            regions.push_str(format!(in alloc; "{region},\n")?.as_str())?;
+        } else {
+            let parent = region_id(k / 10);
+            regions.push_str(format!(in alloc; "{region},{parent}\n")?.as_str())?;
+        }
+        if k % 11 != 0 {
+            let region = region_id(k * 391 % 1000 + 1);
+            members.push_str(format!(in alloc; "{region},{k}\n")?.as_str())?;
+        }
+    }
+    Ok(ManyRegions {
+        nodes,
+        edges,
+        faces,
+        regions,
+        members,
+    })
+}
+
+/// Whether a map of many regions is answered as it has to be.
+fn answers_many_regions<L: Ledger>(alloc: Global, blank: Blank) -> Result<bool, Fail>
+    requires name { blank.name ≡ L.name }
+    requires parts { blank.parts ≡ L.parts }
+    requires some { 0 < blank.parts }
+{
+    let tables = many_regions(alloc)?;
+    let case = RegionCase {
+        regions: Some(tables.regions.as_str()),
+        members: Some(tables.members.as_str()),
+        case: Case {
+            shows: "many regions",
+            folder: Folder {
+                nodes: tables.nodes.as_str(),
+                edges: tables.edges.as_str(),
+                faces: Some(tables.faces.as_str()),
+            },
+            script: b"regions 0\nregions 1\nregions 11\nregions 500\nregions 999\nregions 1000\nregions 289\n\
+            regions 1001\ncommon 133 284\ncommon 844 266\ncommon 596 0\ncommon 1000 289\ncommon 952 642\n\
+            common 386 545\ncommon 125 606\ncommon 592 881\ncommon 289 389\ncommon 289 100\ncommon 289 821\n\
+            common 0 0\ncommon 11 1\ncommon 500 1001\ncounts\n",
+            status: Status::Done,
+            out: "regions 0: 631 842\nregions 1: 713 856 842\nregions 11:\nregions 500: 363 580 58\n\
+            regions 999: 13 304 675\nregions 1000: 617\nregions 289: 501 151 116 617\nregions 1001: unknown\n\
+            common 133 284: 450\ncommon 844 266:\ncommon 596 0: 631\ncommon 1000 289: 617\ncommon 952 642: 65\n\
+            common 386 545: 508\ncommon 125 606:\ncommon 592 881: 747\ncommon 289 389: 151\n\
+            common 289 100: 116\ncommon 289 821: 617\ncommon 0 0: 631\ncommon 11 1:\ncommon 500 1001: unknown\n\
+            counts: 1000 1000 1000 1000 1000\n",
+        },
+    };
+    let mut shelf = shelf_with_regions(alloc, &case)?;
+    let mut steps = Steps::<L>::new(alloc, blank);
+    ends_well(alloc, &case.case, &mut shelf, &mut steps)
+}
+
+#[test]
+fn many_regions_are_answered(rt: HostRuntime) -> Result<(), Fail> {
+    assert!(rt; answers_many_regions::<Brand>(rt.alloc(), Blank::new(1))?);
     Ok(())
 }
 
@@ -521,7 +801,7 @@ fn answers_from_files<L: Ledger>(rt: &HostRuntime, blank: Blank) -> Result<(Stat
     requires some { 0 < blank.parts }
 {
     let mut shelf = FileShelf::new(rt);
-    let mut script = StdSource::new(b"ring 1\nring -2\nring 9\nface 1\n".as_slice());
+    let mut script = StdSource::new(b"ring 1\nring -2\nring 9\nface 1\nregions 1\n".as_slice());
     let mut out = StdSink::new(Vec::new(rt.alloc()));
     let mut steps = Steps::<L>::new(rt.alloc(), blank);
     let words = ["ask", FOLDER];
@@ -543,10 +823,21 @@ fn files_of_the_system_are_answered(rt: HostRuntime) -> Result<(), Fail> {
     fs::write(&rt, "topo_cli_test_folder/node.csv", TRIANGLE.nodes)?;
     fs::write(&rt, "topo_cli_test_folder/edge.csv", TRIANGLE.edges)?;
     fs::write(&rt, "topo_cli_test_folder/face.csv", "face_id\n0\n1\n")?;
+    fs::write(
+        &rt,
+        "topo_cli_test_folder/region.csv",
+        "region_id,parent\n1,\n",
+    )?;
+    fs::write(
+        &rt,
+        "topo_cli_test_folder/member.csv",
+        "region_id,face_id\n1,1\n",
+    )?;
     let (status, out) = answers_from_files::<Brand>(&rt, Blank::new(1))?;
     fs::remove_dir_all(&rt, FOLDER)?;
     assert_eq!(rt; status, Status::Done);
-    let wanted = b"ring 1: 1 2 3\nring -2: -2 -1 -3\nring 9: unknown\nface 1: 1 2 3\n";
+    let wanted =
+        b"ring 1: 1 2 3\nring -2: -2 -1 -3\nring 9: unknown\nface 1: 1 2 3\nregions 1: 1\n";
     assert_eq!(rt; out.as_slice(), wanted.as_slice());
     Ok(())
 }
@@ -623,7 +914,7 @@ struct BuildCase {
     held: Option<usize>,
 }
 
-const BUILDS: [BuildCase; 11] = [
+const BUILDS: [BuildCase; 13] = [
     BuildCase {
         shows: "a build",
         shelf: &[],
@@ -689,8 +980,24 @@ const BUILDS: [BuildCase; 11] = [
         held: None,
     },
     BuildCase {
-        shows: "a failing start of the file",
+        shows: "a failing read of the region table",
         shelf: &[7],
+        sink: &[],
+        status: Status::ReadFault,
+        out: "",
+        held: None,
+    },
+    BuildCase {
+        shows: "a failing read of the member table",
+        shelf: &[8],
+        sink: &[],
+        status: Status::ReadFault,
+        out: "",
+        held: None,
+    },
+    BuildCase {
+        shows: "a failing start of the file",
+        shelf: &[9],
         sink: &[],
         status: Status::WriteFault,
         out: "",
@@ -698,7 +1005,7 @@ const BUILDS: [BuildCase; 11] = [
     },
     BuildCase {
         shows: "an image that is written in part",
-        shelf: &[8],
+        shelf: &[10],
         sink: &[],
         status: Status::WriteFault,
         out: "",
@@ -706,7 +1013,7 @@ const BUILDS: [BuildCase; 11] = [
     },
     BuildCase {
         shows: "a call that is not made",
-        shelf: &[9],
+        shelf: &[11],
         sink: &[],
         status: Status::Done,
         out: "built 3 3 1 1 0\n",

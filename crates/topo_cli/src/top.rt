@@ -166,7 +166,8 @@ fn trial<K: Sink, L: Ledger>(alloc: Global, size: u32, out: &mut K, steps: &mut 
     }
 }
 
-/// Does what the words ask, and ends with the status that says how it went. What is read of a file or an image is counted.
+/// Does what the words ask, and ends with the status that says how it went. What is read of a file or an image is
+/// counted.
 pub fn run<H: Shelf, S: Source, K: Sink, L: Ledger>(
     alloc: Global,
     words: &[String],
