@@ -23,7 +23,8 @@ pub fn mates_and_steps()
 
 /// Numbers are orbits. From a position on, steps of one kind go through the positions of its component that have the
 /// same pair of that kind round them, in rising order and then from the lowest on. So two positions have one ring
-/// exactly where one is in the other's orbit of `next`, and one node exactly where one is in the other's orbit of `turn`.
+/// exactly where one is in the other's orbit of `next`, and one node exactly where one is in the other's orbit of
+/// `turn`.
 pub fn numbers_are_orbits()
     ensures orbits { (c : Code) → IsTrue (is_sound c) → (kind : Bool) (p : ℕ) → p < length c.a → orbit c kind p ≡ filter (is_beside c kind p) (from_on c p) }
     ensures rings { (c : Code) → IsTrue (is_sound c) → (p q : ℕ) → p < length c.a → q < length c.a → (ring_of c p ≡ ring_of c q) ↔ Contains (orbit c false p) q }

@@ -1,4 +1,5 @@
-//! Pairs of points on a cycle: they nest exactly where the step to the point after the mate has as many orbits as it can have. Each law is the contract of a function that does nothing.
+//! Pairs of points on a cycle: they nest exactly where the step to the point after the mate has as many orbits as it
+//! can have. Each law is the contract of a function that does nothing.
 #![tactic(auto)]
 
 ghost use Rattle.std.specs.Prelude.{◌≡◌, ◌≢◌, ℕ, ◌+◌, ◌*◌, ◌<◌, ◌≤◌, ◌↔◌, List, [], ◌∷◌, length, get_or};
@@ -14,7 +15,8 @@ pub fn least_points_tell_orbits()
     ensures { (n : ℕ) (step : ℕ → ℕ) (i j : ℕ) → IsPermuted n step → i < n → j < n → Meet step i j ↔ (least_of step n i ≡ least_of step n j) }
 {}
 
-/// A list of different colours that points have is no longer than `colours` counts, and one that has all of them is no shorter.
+/// A list of different colours that points have is no longer than `colours` counts, and one that has all of them is no
+/// shorter.
 pub fn listed_colours()
     ensures few { (colour : ℕ → ℕ) (n : ℕ) (listed : List ℕ) → ((k : ℕ) → k < length listed → (i : ℕ) × (i < n) × (colour i ≡ get_or listed k 0)) → ((j k : ℕ) → j < k → k < length listed → get_or listed j 0 ≢ get_or listed k 0) → length listed ≤ colours colour n }
     ensures all { (colour : ℕ → ℕ) (n : ℕ) (listed : List ℕ) → ((i : ℕ) → i < n → (k : ℕ) × (k < length listed) × (get_or listed k 0 ≡ colour i)) → colours colour n ≤ length listed }
@@ -43,7 +45,8 @@ pub fn whole_pairings_nest()
     ensures nests { (g : ℕ) (mate : ℕ → ℕ) → IsPairing (2 * g) mate → ((i : ℕ) → i < 2 * g → mate i ≢ i) → 0 < g → Nests (2 * g) mate ↔ (orbits (2 * g) (after_mate (2 * g) mate) ≡ g + 1) }
 {}
 
-/// Pairs among some points of a larger permutation nest where each of its orbits has such a point, the permutation leads from each to where the step leads, and it has one orbit more than there are pairs.
+/// Pairs among some points of a larger permutation nest where each of its orbits has such a point, the permutation
+/// leads from each to where the step leads, and it has one orbit more than there are pairs.
 pub fn pairs_of_a_permutation_nest()
     ensures { (m n : ℕ) (next mate at : ℕ → ℕ) → IsPermuted m next → IsPairing n mate → ((i : ℕ) → i < n → at i < m) → ((i : ℕ) → i < n → Meet next (at (after_mate n mate i)) (at i)) → ((d : ℕ) → d < m → (i : ℕ) × (i < n) × Meet next (at i) d) → pairs mate n + 1 ≤ orbits m next → Nests n mate }
 {}

@@ -1,4 +1,5 @@
-//! The rings and the components of a rotation, numbered by their first darts; rings with more than one face, and components that aren't plane by Euler's count.
+//! The rings and the components of a rotation, numbered by their first darts; rings with more than one face, and
+//! components that aren't plane by Euler's count.
 #![tactic(auto)]
 
 mod components;

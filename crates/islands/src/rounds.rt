@@ -10,7 +10,8 @@ use crate::enter::enter;
 use crate::gather::gather;
 use std::alloc::{AllocError, Global};
 
-/// The outer rings by number, in the order of the rounds and rising in each round. The ring `i` has the face `faces[i]` and the component `components[i]`.
+/// The outer rings by number, in the order of the rounds and rising in each round. The ring `i` has the face `faces[i]`
+/// and the component `components[i]`.
 pub fn outer_rings(
     alloc: Global,
     faces: &[u32],

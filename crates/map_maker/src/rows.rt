@@ -240,8 +240,8 @@ fn tables_of(alloc: Global, n: u32) -> Result<Tables, AllocError>
     })
 }
 
-/// The grid of size `n`: nodes in rows and columns from 0 to `n`, joined to their neighbours; in each seventh cell a closed
-/// edge at a node of its own, and in each eleventh an isolated node. Rows rise by id; face 0 has none.
+/// The grid of size `n`: nodes in rows and columns from 0 to `n`, joined to their neighbours; in each seventh cell a
+/// closed edge at a node of its own, and in each eleventh an isolated node. Rows rise by id; face 0 has none.
 pub fn grid(alloc: Global, n: u32) -> Result<Tables, Memory>
     requires some { 1 ≤ n }
     requires size { n ≤ 1000 }

@@ -106,8 +106,8 @@ fn number(edge: Option<Signed>) -> Option<SignedNumber> {
     }
 }
 
-/// Whether a ring and a node have the same walks over the file and over the rows, where both are stepped in turn `count`
-/// times.
+/// Whether a ring and a node have the same walks over the file and over the rows, where both are stepped in turn
+/// `count` times.
 fn agree_in_turn<C: Ledger>(
     served: Served<'_>,
     edges: &[EdgeRow],

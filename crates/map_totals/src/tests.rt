@@ -123,7 +123,8 @@ fn small_grids_have_the_totals_worked_by_hand(rt: HostRuntime) -> Result<(), Fai
 }
 
 /// Each of the 2 · 30 · 31 + ⌊900 / 7⌋ edges has two sides and two ends. Each of the 30 · 29 edges between two cells in
-/// one direction parts two faces, the 4 · 30 outer ones have 4 · 30 - 4 cells beside them, and each closed edge parts two.
+/// one direction parts two faces, the 4 · 30 outer ones have 4 · 30 - 4 cells beside them, and each closed edge parts
+/// two.
 #[test]
 fn a_grid_has_the_totals_of_its_size(rt: HostRuntime) -> Result<(), Fail> {
     let alloc = rt.alloc();

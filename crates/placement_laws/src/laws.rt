@@ -77,7 +77,8 @@ pub fn outer_or_shell()
     ensures { (t : Rows) (r : ℤ) → IsLabelledRotation t → let m = map_of t in IsTrue (is_placed m) → IsTrue (has_edge (rings m) r) → (IsTrue (is_outer m r) × (outer_ring m r ≡ Some r)) ⊎ (IsFalse (is_outer m r) × (shell m (side m r) ≡ Some r) × IsTrue (has m.faces (side m r))) }
 {}
 
-/// The face of an outer ring is face 0, or a face that a ring has which is no outer ring, in the component of an earlier outer ring: in a placed map that ring is the face's shell.
+/// The face of an outer ring is face 0, or a face that a ring has which is no outer ring, in the component of an
+/// earlier outer ring: in a placed map that ring is the face's shell.
 pub fn outer_rings_in_order()
     ensures any { (t : Rows) (place : ℕ) (r : ℤ) → IsLabelledRotation t → let m = map_of t in slice_get (outer_rings m) place ≡ Some r → (side m r ≡ 0) ⊎ IsShellOfEarlier m (outer_rings m) place (side m r) }
     ensures placed { (t : Rows) (place : ℕ) (r : ℤ) → IsLabelledRotation t → let m = map_of t in IsTrue (is_placed m) → slice_get (outer_rings m) place ≡ Some r → (side m r ≡ 0) ⊎ LiesInEarlier m place (side m r) }
@@ -90,7 +91,8 @@ pub fn rising_lists()
     ensures components { (t : Rows) → IsLabelledRotation t → IsTrue (is_rising_edges (components (map_of t))) }
 {}
 
-/// Placing round by round: it begins with face 0, a round adds its starts, and at an empty front the starts are the outer rings.
+/// Placing round by round: it begins with face 0, a round adds its starts, and at an empty front the starts are the
+/// outer rings.
 pub fn placing_by_rounds()
     ensures begins { (t : Rows) → let m = map_of t in IsPlacedSoFar m (length (components m)) (0 ∷ []) [] [] }
     ensures goes_on { (t : Rows) (left : ℕ) (front entered next : List ℕ) (starts : List ℤ) → IsLabelledRotation t → let m = map_of t in IsPlacedSoFar m left front entered starts → IsNextFront m (front ++ entered) (round_starts m front starts) next → (left' : ℕ) × IsPlacedSoFar m left' next (front ++ entered) (starts ++ round_starts m front starts) }

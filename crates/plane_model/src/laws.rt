@@ -64,7 +64,8 @@ pub fn smallest_found()
     ensures smallest { (d : ℤ) (ds : List ℤ) → IsSmallest (λ e. true) (d ∷ ds) (smallest d ds) }
 {}
 
-/// Rising lists of signed edges with the same members are equal, what a filter leaves of one rises, and so do rings and components.
+/// Rising lists of signed edges with the same members are equal, what a filter leaves of one rises, and so do rings and
+/// components.
 pub fn one_signed_order()
     ensures same { (ds es : List ℤ) → IsTrue (is_rising_edges ds) → IsTrue (is_rising_edges es) → ((x : ℤ) → has_edge ds x ≡ has_edge es x) → ds ≡ es }
     ensures once { (ds : List ℤ) → IsTrue (is_rising_edges ds) → IsTrue (is_distinct_edges ds) }
@@ -159,14 +160,16 @@ pub fn faces_make_no_difference()
     ensures fault { (t : Rows) → euler_fault (nodes_and_edges t) ≡ euler_fault t }
 {}
 
-/// Where the next of each signed edge is there, and no two have one, the next and the turn take signed edges to signed edges, no two to one.
+/// Where the next of each signed edge is there, and no two have one, the next and the turn take signed edges to signed
+/// edges, no two to one.
 pub fn next_permutes()
     ensures next { (t : Rows) → IsTrue (list_all (λ d. is_some ((map_of t).edges.at (edge_of (next (map_of t) d)))) (signed_edges (map_of t))) → IsTrue (is_distinct_edges (map (next (map_of t)) (signed_edges (map_of t)))) → Permutes (signed_edges (map_of t)) (next (map_of t)) }
     ensures turn { (m : PlaneMap) → Permutes (signed_edges m) (next m) → Permutes (signed_edges m) (turn m) }
     ensures orbit { (us : List ℤ) (step : ℤ → ℤ) → Permutes us step → IsPartition us (λ d. until_return (length us) step d d) }
 {}
 
-/// Where each next leaves the head, the round of a signed edge stays at its node, and the node's signed edges are one orbit exactly where it is as long as they are many.
+/// Where each next leaves the head, the round of a signed edge stays at its node, and the node's signed edges are one
+/// orbit exactly where it is as long as they are many.
 pub fn node_rounds()
     ensures stays { (m : PlaneMap) (n : ℕ) (d x : ℤ) → IsTrue (list_all (λ e. origin m (next m e) == head m e) (signed_edges m)) → Permutes (signed_edges m) (turn m) → IsTrue (has_edge (leaving m n) d) → IsTrue (has_edge (round m d) x) → IsTrue (has_edge (leaving m n) x) }
     ensures counts { (m : PlaneMap) (n : ℕ) (d : ℤ) (ds : List ℤ) → IsTrue (list_all (λ e. origin m (next m e) == head m e) (signed_edges m)) → Permutes (signed_edges m) (turn m) → IsTrue (is_distinct_edges (signed_edges m)) → leaving m n ≡ (d ∷ ds) → is_one_orbit m (leaving m n) ≡ (length (round m d) == length (leaving m n)) }
@@ -209,7 +212,8 @@ pub fn parts_are_all()
     ensures components { (t : Rows) → IsTrue (is_rotation (map_of t)) → IsAllOf (signed_edges (map_of t)) (flat_map (component (map_of t)) (components (map_of t))) }
 {}
 
-/// In consistent tables each component has one outer ring, and each face other than 0 has one shell: a ring that is no outer ring.
+/// In consistent tables each component has one outer ring, and each face other than 0 has one shell: a ring that is no
+/// outer ring.
 pub fn outer_rings_and_shells()
     ensures count { (t : Rows) → IsTrue (is_consistent t) → length (outer_rings (map_of t)) ≡ length (components (map_of t)) }
     ensures outer { (t : Rows) (d : ℤ) → IsTrue (is_consistent t) → IsTrue (has_edge (signed_edges (map_of t)) d) → (r : ℤ) × IsTrue (is_outer (map_of t) r) × IsTrue (has_edge (component (map_of t) r) d) }
@@ -257,7 +261,8 @@ pub fn component_is_least()
     ensures least { (m : PlaneMap) (s : ℤ → Bool) → ((e : ℤ) → IsTrue (s e) → IsTrue (s (reverse e))) → ((e : ℤ) → IsTrue (s e) → IsTrue (s (turn m e))) → (d : ℤ) → IsTrue (s d) → IsTrue (list_all s (component m d)) }
 {}
 
-/// Tables that describe one map have one answer to each script, by as much walked and listed: the order of rows and a row for face 0 make no difference.
+/// Tables that describe one map have one answer to each script, by as much walked and listed: the order of rows and a
+/// row for face 0 make no difference.
 pub fn same_map_same_answers()
     ensures answers { (t u : Rows) → Same t u → (script : List ℕ) → answers (map_of t) script ≡ answers (map_of u) script }
     ensures walked { (t u : Rows) → Same t u → (line : List ℕ) → walked (map_of t) line ≡ walked (map_of u) line }

@@ -9,7 +9,8 @@ impl<'a> Darts<'a> {
     ghost use Rattle.rotation_check.specs.Counts.{AreCounts};
     ghost use Rattle.rotation_check.specs.Numbered.{IsNumbered, map_of_darts};
 
-    /// The first node with a containing face that darts leave, or without one that none leaves; `counts` says how many leave each node.
+    /// The first node with a containing face that darts leave, or without one that none leaves; `counts` says how many
+    /// leave each node.
     pub fn first_node_with_face(&self, counts: &[u32]) -> Option<Refusal>
         requires numbered { IsNumbered self.now }
         requires counts { AreCounts self.now.node.items (length self.now.tables.now.nodes.items) counts.now }

@@ -71,7 +71,8 @@ fn refuse(fault: Option<Refusal>) -> Result<(), CheckFault>
     }
 }
 
-/// The darts of tables whose ids are distinct and whose edges have their nodes and nexts, or what is first wrong with them.
+/// The darts of tables whose ids are distinct and whose edges have their nodes and nexts, or what is first wrong with
+/// them.
 fn number_darts<'a>(alloc: Global, tables: &'a Tables) -> Result<Darts<'a>, CheckFault>
     requires { IsTrue (is_in_range (rows_of tables.now)) }
     ensures tables { IfOk result (λ darts. darts.tables.now ≡ tables.now) }

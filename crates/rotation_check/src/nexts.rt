@@ -41,7 +41,8 @@ impl<'a> EdgeIndex<'a> {
         })
     }
 
-    /// The darts of the next values of an edge, the left one and the right one, or the first of them whose edge has no row.
+    /// The darts of the next values of an edge, the left one and the right one, or the first of them whose edge has no
+    /// row.
     pub fn darts_of_nexts(&self, edge: &EdgeRow) -> Result<(u32, u32), Refusal>
         requires index { IsEdgeIndex self.now }
         requires few { length self.now.tables.now.edges.items ≤ 16_777_216 }

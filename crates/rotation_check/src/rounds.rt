@@ -55,7 +55,8 @@ impl<'a> Darts<'a> {
         counts[row] > 0 && self.round_length(places[row]) != counts[row]
     }
 
-    /// The least node whose darts are more than one orbit; `counts` says how many leave each node, `places` names one of them.
+    /// The least node whose darts are more than one orbit; `counts` says how many leave each node, `places` names one
+    /// of them.
     pub fn least_split_node(&self, counts: &[u32], places: &[u32]) -> Option<Refusal>
         requires numbered { IsNumbered self.now }
         requires ends { first_in (either_way (wrong_end (map_of_darts self.now))) self.now.tables.now.edges.items ≡ None }

@@ -11,7 +11,8 @@ ghost use Rattle.spanning_pair.specs.Rotations.{AreComponentStarts, AreConnected
 ghost use Rattle.spanning_pair.specs.Tours.{number_at, flag_at, IsTour};
 ghost use Rattle.spanning_pair.specs.Walks.{IsTreeWalk};
 
-/// A rotation's dart is that of its signed edge, its next dart that of the next signed edge, its other dart that of the reverse, and the row of its node has the origin's id.
+/// A rotation's dart is that of its signed edge, its next dart that of the next signed edge, its other dart that of the
+/// reverse, and the row of its node has the origin's id.
 pub fn darts_of_signed_edges()
     ensures dart { (r : RotationRows) (d : ℕ) → IsRotation r → d < 2 * length r.edges → dart_of r.edges (signed_edge r.edges d) ≡ d }
     ensures next { (r : RotationRows) (d : ℕ) → IsRotation r → d < 2 * length r.edges → (next_dart r d < 2 * length r.edges) × (signed_edge r.edges (next_dart r d) ≡ next (map_of_rotation r) (signed_edge r.edges d)) }
@@ -29,7 +30,8 @@ pub fn crossed_or_nested()
     ensures { (dart : ℕ → ℕ) (tree : ℕ → Bool) (n closing : ℕ) → IsFirstCrossing dart tree n closing → OthersNest dart tree n → ⊥ }
 {}
 
-/// The edges of a component's walk that are not of the tree nest exactly where Euler's count of the component is 2, and those of a tour exactly where that of each component is.
+/// The edges of a component's walk that are not of the tree nest exactly where Euler's count of the component is 2, and
+/// those of a tour exactly where that of each component is.
 pub fn nested_where_plane()
     ensures component { (r : RotationRows) (start : ℕ) (dart : ℕ → ℕ) (tree first : ℕ → Bool) (from to : ℕ) → IsRotation r → start < 2 * length r.edges → IsTreeWalk (next_dart r) (node_row r) start dart tree first from to → OthersNest (λ p. dart (from + p)) (λ p. tree (from + p)) (to - from) ↔ IsTrue (is_plane_component (map_of_rotation r) (signed_edge r.edges start)) }
     ensures tour { (r : RotationRows) (starts darts : List ℕ) (tree first : List Bool) (places : List ℕ) → IsRotation r → AreComponentStarts r starts → IsTour (length r.edges) (next_dart r) (node_row r) starts darts tree first places → OthersNest (number_at darts) (flag_at tree) (length darts) ↔ IsTrue (is_plane (map_of_rotation r)) }

@@ -28,7 +28,8 @@ pub use places::Tour;
 /// Why there is no tour.
 #[derive(Clone, Copy, Debug, PartialEq, Eq)]
 pub enum TourFault {
-    /// Two edges that are not of the tree interleave. Read from the front, the edge of this id is the first that ends while one that began later is open.
+    /// Two edges that are not of the tree interleave. Read from the front, the edge of this id is the first that ends
+    /// while one that began later is open.
     Crossed { edge: IdNumber },
     /// Memory ran out.
     Memory,
@@ -176,7 +177,8 @@ fn crossing(
     Ok(None)
 }
 
-/// The walk round a spanning tree of each component, where no two other edges cross. A component's walk begins at its entry of `starts`, a dart.
+/// The walk round a spanning tree of each component, where no two other edges cross. A component's walk begins at its
+/// entry of `starts`, a dart.
 pub fn tour(alloc: Global, rotation: &Rotation, starts: &[u32]) -> Result<Tour, TourFault>
     requires starts { AreComponentStarts rotation.now starts.now }
     ensures tour { IfOk result (λ t. IsTheTour (length rotation.now.edges) (next_dart rotation.now) (node_row rotation.now) starts.now t.darts.items t.tree.items t.first.items t.starts.items) }
