@@ -32,11 +32,11 @@ use Rattle.code_laws.proofs.Edges.{laws, one_edge, edge_there, edge_within, clos
 use Rattle.code_laws.proofs.Selects.{other_edge, shell_by_select}
 use Rattle.id_names.specs.Names.{number_of, AreDistinctIds, is_names}
 use Rattle.id_names.proofs.NameLaws.{names_pass}
-use Rattle.pemb_file.specs.Contents.{Contents}
-use Rattle.pemb_file.specs.MapOfFile.{signed_at}
-use Rattle.pemb_file.specs.Faults.{is_place, begins_before, place_fault, places_fault, is_smallest, start_fault, member_fault, most}
-use Rattle.pemb_file.specs.Lawful.{all_of, has_sizes, is_whole}
-use Rattle.pemb_file.proofs.Lists.{index-has}
+use Rattle.file_laws.specs.Contents.{Contents}
+use Rattle.file_laws.specs.MapOfFile.{signed_at}
+use Rattle.file_laws.specs.Faults.{is_place, begins_before, place_fault, places_fault, is_smallest, start_fault, member_fault, most}
+use Rattle.file_laws.specs.Lawful.{all_of, has_sizes, is_whole}
+use Rattle.file_laws.proofs.Lists.{index-has}
 use Rattle.std.proofs.lemmas.List.FromFn.{length-range_with_len}
 use Rattle.map_build.specs.Made.{walked_at, made_with, faces_made, place_of, member_number}
 use Rattle.map_build.specs.Walked.{IsMapWalk}

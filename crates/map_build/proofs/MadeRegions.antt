@@ -20,7 +20,7 @@ use Rattle.region_tree.specs.Numbering.{AreMembers, AreNumbered}
 use Rattle.region_tree.specs.Parts.{member_places, region_bits, region_ids}
 use Rattle.region_tree.specs.declared.parts.MemberPlace.{MemberPlace}
 use Rattle.region_tree.proofs.GivenBack.{found-passes, members_given_back, regions_back}
-use Rattle.pemb_file.proofs.Lists.{index-has, length-rising, rising_apart}
+use Rattle.file_laws.proofs.Lists.{index-has, length-rising, rising_apart}
 use Rattle.map_build.specs.Made.{member_number, region_number}
 use Rattle.map_build.specs.Placed.{member_region}
 use Rattle.map_build.proofs.Facts.{AreGood}

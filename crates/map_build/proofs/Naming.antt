@@ -22,7 +22,7 @@ use Rattle.code_laws.proofs.Edges.{edge_within}
 use Rattle.code_laws.proofs.Selects.{node_within}
 use Rattle.code_laws.proofs.Sound.{SoundParts}
 use Rattle.code_laws.proofs.Walked.{first_of_walk}
-use Rattle.pemb_file.specs.Contents.{Contents}
+use Rattle.file_laws.specs.Contents.{Contents}
 use Rattle.map_build.specs.ByNumber.{StandByNumber}
 use Rattle.map_build.specs.DartRows.{row_at, start_of_dart, face_of_dart}
 use Rattle.map_build.specs.Filled.{AreFilled}

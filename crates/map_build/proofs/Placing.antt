@@ -49,7 +49,7 @@ use Rattle.map_build.proofs.Standings.{same_members}
 use Rattle.std.specs.List.{AllByRecursion}
 use Rattle.std.proofs.lemmas.List.Elements.{All-from_recursion}
 use Rattle.islands.proofs.Collected.{has_index}
-use Rattle.pemb_file.proofs.Lists.{index-has}
+use Rattle.file_laws.proofs.Lists.{index-has}
 use Rattle.map_build.specs.Filled.{AreFilled}
 use Rattle.map_build.specs.Made.{member_number}
 use Rattle.map_build.specs.Placed.{AreRegionsOf, member_region}

@@ -7,7 +7,7 @@ use Rattle.map_build.specs.declared.standing.Standing.{Standing}
 use Rattle.std.specs.List.Sorted.{IsPermutation}
 use Rattle.plane_model.specs.Rows.{Rows}
 use Rattle.map_build.specs.DartRows.{key_of_dart}
-use Rattle.pemb_file.specs.Contents.{Contents}
+use Rattle.file_laws.specs.Contents.{Contents}
 use Rattle.region_tree.specs.Parts.{member_places, region_bits, region_ids}
 use Rattle.region_tree.specs.declared.parts.MemberPlace.{MemberPlace}
 use Rattle.region_tree.specs.declared.parts.RegionParts.{RegionParts}

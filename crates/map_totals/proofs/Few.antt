@@ -11,13 +11,13 @@ use Rattle.plane_model.specs.PlaneMap.{PlaneMap, signed_edges, until_return, lea
 use Rattle.plane_model.specs.Lists.{node_edges, face_edges, adjacent, holes, shell, ring_if_some, round_from_first}
 use Rattle.plane_model.specs.Faces.{is_outer}
 use Rattle.plane_model.proofs.Sums.{all_rings}
-use Rattle.pemb_file.specs.Contents.{Contents}
-use Rattle.pemb_file.specs.MapOfFile.{rows_of_contents}
-use Rattle.pemb_file.specs.Lawful.{is_whole}
-use Rattle.pemb_file.proofs.Lists.{length-both}
-use Rattle.pemb_file.proofs.Whole.{WholeParts, whole_parts}
-use Rattle.pemb_file.proofs.Rotation.{rotation}
-use Rattle.pemb_file.proofs.Sizes.{edges_many}
+use Rattle.file_laws.specs.Contents.{Contents}
+use Rattle.file_laws.specs.MapOfFile.{rows_of_contents}
+use Rattle.file_laws.specs.Lawful.{is_whole}
+use Rattle.file_laws.proofs.Lists.{length-both}
+use Rattle.file_laws.proofs.Whole.{WholeParts, whole_parts}
+use Rattle.file_laws.proofs.Rotation.{rotation}
+use Rattle.file_laws.proofs.Sizes.{edges_many}
 use Rattle.navigate.specs.Bound.{map_with}
 
 until-few : (n : ℕ) (step : ℤ → ℤ) (first d : ℤ) → length (until_return n step first d) ≤ n

@@ -10,12 +10,12 @@ use Rattle.plane_model.specs.Rotation.{is_face}
 use Rattle.plane_model.specs.Answers.{has_node}
 use Rattle.plane_model.proofs.Sorting.{rising-has, rising-permutation}
 use Rattle.id_names.specs.Names.{number_of}
-use Rattle.pemb_file.specs.Contents.{Contents}
-use Rattle.pemb_file.specs.MapOfFile.{node_row, rows_of_contents}
-use Rattle.pemb_file.specs.Lawful.{is_whole}
-use Rattle.pemb_file.proofs.Lists.{keys_kept, has-index, index-has}
-use Rattle.pemb_file.proofs.Whole.{WholeParts, whole_parts}
-use Rattle.pemb_file.proofs.Rotation.{face_ids, face_there}
+use Rattle.file_laws.specs.Contents.{Contents}
+use Rattle.file_laws.specs.MapOfFile.{node_row, rows_of_contents}
+use Rattle.file_laws.specs.Lawful.{is_whole}
+use Rattle.file_laws.proofs.Lists.{keys_kept, has-index, index-has}
+use Rattle.file_laws.proofs.Whole.{WholeParts, whole_parts}
+use Rattle.file_laws.proofs.Rotation.{face_ids, face_there}
 use Rattle.navigate.specs.Bound.{map_with}
 use Rattle.navigate.proofs.Facts.{node_test}
 

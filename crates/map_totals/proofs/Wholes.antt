@@ -4,9 +4,9 @@ use Rattle.std.proofs.Common.{◌≡◌, ℕ, ◌+◌, ◌*◌, ◌<◌, ◌≤�
 use Rattle.std.proofs.lemmas.List.Sums.{sum_by-cons}
 use Rattle.plane_model.specs.PlaneMap.{PlaneMap}
 use Rattle.plane_model.specs.Lists.{node_edges, face_edges, adjacent}
-use Rattle.pemb_file.specs.Contents.{Contents}
-use Rattle.pemb_file.specs.Lawful.{is_whole}
-use Rattle.pemb_file.proofs.FiveCounts.{counts_of_map}
+use Rattle.file_laws.specs.Contents.{Contents}
+use Rattle.file_laws.specs.Lawful.{is_whole}
+use Rattle.file_laws.proofs.FiveCounts.{counts_of_map}
 use Rattle.navigate.specs.Bound.{map_with}
 use Rattle.map_totals.specs.Totals.{face_total, node_total, adjacent_total, face_words, node_words, adjacent_words, most_face_words, most_node_words, most_adjacent_words}
 use Rattle.map_totals.proofs.Ids.{nodes_sum, faces_sum}

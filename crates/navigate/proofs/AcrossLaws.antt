@@ -12,12 +12,12 @@ use Rattle.plane_model.specs.Lists.{face_edges, adjacent}
 use Rattle.code_laws.specs.Code.{mate}
 use Rattle.code_laws.specs.Laws.{MateLaws}
 use Rattle.code_laws.proofs.Mates.{mate_laws}
-use Rattle.pemb_file.specs.Contents.{Contents}
-use Rattle.pemb_file.specs.MapOfFile.{signed_at, face_at, face_at_place}
-use Rattle.pemb_file.specs.Agreement.{Agrees}
-use Rattle.pemb_file.specs.Lawful.{is_whole}
-use Rattle.pemb_file.proofs.Agreement.{agrees}
-use Rattle.pemb_file.proofs.Rotation.{ring_place}
+use Rattle.file_laws.specs.Contents.{Contents}
+use Rattle.file_laws.specs.MapOfFile.{signed_at, face_at, face_at_place}
+use Rattle.file_laws.specs.Agreement.{Agrees}
+use Rattle.file_laws.specs.Lawful.{is_whole}
+use Rattle.file_laws.proofs.Agreement.{agrees}
+use Rattle.file_laws.proofs.Rotation.{ring_place}
 use Rattle.navigate.specs.Bound.{map_with, line_digits, line_words}
 use Rattle.navigate.specs.Beside.{place_across, others, adjacent_places}
 use Rattle.navigate.specs.OrbitWalk.{price}

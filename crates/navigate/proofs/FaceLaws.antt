@@ -4,8 +4,8 @@ use Rattle.std.proofs.Common.{◌≡◌, ℕ, zero, suc, ◌+◌, ◌-◌, ◌*�
 use Rattle.std.proofs.Math.Nat.{mul-le-mul_left}
 use Rattle.code_laws.specs.Code.{Code, start_of, step}
 use Rattle.code_laws.specs.Orbits.{orbit}
-use Rattle.pemb_file.specs.Contents.{Contents}
-use Rattle.pemb_file.specs.MapOfFile.{signed_at}
+use Rattle.file_laws.specs.Contents.{Contents}
+use Rattle.file_laws.specs.MapOfFile.{signed_at}
 use Rattle.navigate.specs.Bound.{line_digits, line_words}
 use Rattle.navigate.specs.Holes.{components_between, outer_positions}
 use Rattle.navigate.specs.OrbitWalk.{positions_left}

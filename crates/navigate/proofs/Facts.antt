@@ -24,16 +24,16 @@ use Rattle.code_laws.specs.SeqFault.{is_sound}
 use Rattle.code_laws.proofs.Sound.{sound_parts}
 use Rattle.code_laws.proofs.Selects.{first_is}
 use Rattle.id_names.specs.Names.{is_id, number_of}
-use Rattle.pemb_file.specs.Contents.{Contents, component_count}
-use Rattle.pemb_file.specs.MapOfFile.{signed_at, is_forward_at, node_row, edge_row, face_at_place, rows_of_contents}
-use Rattle.pemb_file.specs.Lawful.{is_whole, has_sizes, size_tests, whole_tests}
-use Rattle.pemb_file.proofs.Lists.{has-index, index-has}
-use Rattle.pemb_file.proofs.Agreement.{test_at, agrees}
+use Rattle.file_laws.specs.Contents.{Contents, component_count}
+use Rattle.file_laws.specs.MapOfFile.{signed_at, is_forward_at, node_row, edge_row, face_at_place, rows_of_contents}
+use Rattle.file_laws.specs.Lawful.{is_whole, has_sizes, size_tests, whole_tests}
+use Rattle.file_laws.proofs.Lists.{has-index, index-has}
+use Rattle.file_laws.proofs.Agreement.{test_at, agrees}
 use Rattle.pemb_file.proofs.PlaceSteps.{signed-as, signed-other}
 use Rattle.plane_model.proofs.RotationOrbits.{reverse-reverse}
-use Rattle.pemb_file.proofs.Whole.{WholeParts, whole_parts}
-use Rattle.pemb_file.proofs.Rotation.{face_there, face_ids}
-use Rattle.pemb_file.proofs.Sizes.{size_is}
+use Rattle.file_laws.proofs.Whole.{WholeParts, whole_parts}
+use Rattle.file_laws.proofs.Rotation.{face_there, face_ids}
+use Rattle.file_laws.proofs.Sizes.{size_is}
 use Rattle.navigate.specs.Bound.{map_with, line_digits, line_words, most_words}
 
 -- some row has a key exactly where the key is among those that rows are made from

@@ -24,18 +24,18 @@ use Rattle.code_laws.specs.Code.{start_of}
 use Rattle.code_laws.specs.Numbers.{ring_of}
 use Rattle.code_laws.specs.Orbits.{orbit}
 use Rattle.code_laws.specs.declared.ring_number.RingNumber.TheVariants.{Outer, Shell}
-use Rattle.pemb_file.specs.Contents.{Contents, component_count}
-use Rattle.pemb_file.specs.MapOfFile.{signed_at, face_at, face_at_place, place_of_ring, rows_of_contents}
-use Rattle.pemb_file.specs.Agreement.{starts_of}
-use Rattle.pemb_file.specs.Lawful.{is_whole}
-use Rattle.pemb_file.proofs.Lists.{has-positions, position_in}
-use Rattle.pemb_file.proofs.Components.{labelled_rotation}
-use Rattle.pemb_file.proofs.Consistent.{consistent_of, outer_of}
-use Rattle.pemb_file.proofs.Orbits.{ring-orbit, ring_to}
-use Rattle.pemb_file.proofs.Rotation.{signed_rise}
-use Rattle.pemb_file.proofs.Placed.{start_in, start_has, start_from}
-use Rattle.pemb_file.proofs.Agreement.{agrees}
-use Rattle.pemb_file.specs.Agreement.{Agrees}
+use Rattle.file_laws.specs.Contents.{Contents, component_count}
+use Rattle.file_laws.specs.MapOfFile.{signed_at, face_at, face_at_place, place_of_ring, rows_of_contents}
+use Rattle.file_laws.specs.Agreement.{starts_of}
+use Rattle.file_laws.specs.Lawful.{is_whole}
+use Rattle.file_laws.proofs.Lists.{has-positions, position_in}
+use Rattle.file_laws.proofs.Components.{labelled_rotation}
+use Rattle.file_laws.proofs.Consistent.{consistent_of, outer_of}
+use Rattle.file_laws.proofs.Orbits.{ring-orbit, ring_to}
+use Rattle.file_laws.proofs.Rotation.{signed_rise}
+use Rattle.file_laws.proofs.Placed.{start_in, start_has, start_from}
+use Rattle.file_laws.proofs.Agreement.{agrees}
+use Rattle.file_laws.specs.Agreement.{Agrees}
 use Rattle.navigate.specs.Bound.{map_with}
 use Rattle.navigate.specs.Least.{smallest_of}
 use Rattle.navigate.specs.Holes.{place_at, components_between, outer_positions}

@@ -13,10 +13,10 @@ use Rattle.plane_model.specs.PlaneMap.{PlaneMap}
 use Rattle.plane_model.specs.Rotation.{node_face}
 use Rattle.plane_model.specs.Lists.{holes, isolated_nodes, is_in_face}
 use Rattle.code_laws.specs.Code.{start_of}
-use Rattle.pemb_file.specs.Contents.{Contents}
-use Rattle.pemb_file.specs.MapOfFile.{signed_at, face_at_place, joined_count}
-use Rattle.pemb_file.specs.Faults.{isolated_id}
-use Rattle.pemb_file.specs.Lawful.{is_whole}
+use Rattle.file_laws.specs.Contents.{Contents}
+use Rattle.file_laws.specs.MapOfFile.{signed_at, face_at_place, joined_count}
+use Rattle.file_laws.specs.Faults.{isolated_id}
+use Rattle.file_laws.specs.Lawful.{is_whole}
 use Rattle.navigate.specs.Bound.{map_with, line_digits, line_words}
 use Rattle.navigate.specs.Holes.{components_between}
 use Rattle.navigate.specs.IslandWalk.{contents_in, hole_edges, nodes_between, items_between, rest, price, allowance}
@@ -27,9 +27,9 @@ use Rattle.plane_model.specs.Rows.{Rows}
 use Rattle.plane_model.specs.Consistent.{is_consistent}
 use Rattle.plane_model.specs.Sets.{is_distinct}
 use Rattle.plane_model.proofs.Sorting.{rising_strictly, same_strictly}
-use Rattle.pemb_file.specs.MapOfFile.{rows_of_contents}
-use Rattle.pemb_file.proofs.Consistent.{consistent_of, rotation_of}
-use Rattle.pemb_file.proofs.Rotation.{face_of, node_key, node_keys_from}
+use Rattle.file_laws.specs.MapOfFile.{rows_of_contents}
+use Rattle.file_laws.proofs.Consistent.{consistent_of, rotation_of}
+use Rattle.file_laws.proofs.Rotation.{face_of, node_key, node_keys_from}
 use Rattle.navigate.proofs.Facts.{w}
 use Rattle.navigate.proofs.OrbitLengths.{some_digits}
 use Rattle.navigate.proofs.PlaceLaws.{ids_rise}

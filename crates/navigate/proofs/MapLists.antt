@@ -20,16 +20,16 @@ use Rattle.code_laws.specs.Numbers.{node_of, node_count}
 use Rattle.code_laws.specs.Orbits.{orbit}
 use Rattle.code_laws.proofs.Numbered.{node-beside}
 use Rattle.code_laws.proofs.Selects.{node_within}
-use Rattle.pemb_file.specs.Contents.{Contents, component_count}
-use Rattle.pemb_file.specs.MapOfFile.{signed_at, node_at, face_at, face_at_place, place_of_ring, joined_count, rows_of_contents}
-use Rattle.pemb_file.specs.Agreement.{Agrees}
-use Rattle.pemb_file.specs.Lawful.{is_whole}
-use Rattle.pemb_file.proofs.Agreement.{agrees}
-use Rattle.pemb_file.proofs.Consistency.{position_of, leaves_head}
-use Rattle.pemb_file.proofs.Fits.{components_same, node_in}
-use Rattle.pemb_file.proofs.Whole.{WholeParts, whole_parts}
-use Rattle.pemb_file.proofs.Orbits.{ring-orbit, round-orbit, round_from}
-use Rattle.pemb_file.proofs.Rotation.{rotation, signed_rise, at_leaves, face_of}
+use Rattle.file_laws.specs.Contents.{Contents, component_count}
+use Rattle.file_laws.specs.MapOfFile.{signed_at, node_at, face_at, face_at_place, place_of_ring, joined_count, rows_of_contents}
+use Rattle.file_laws.specs.Agreement.{Agrees}
+use Rattle.file_laws.specs.Lawful.{is_whole}
+use Rattle.file_laws.proofs.Agreement.{agrees}
+use Rattle.file_laws.proofs.Consistency.{position_of, leaves_head}
+use Rattle.file_laws.proofs.Fits.{components_same, node_in}
+use Rattle.file_laws.proofs.Whole.{WholeParts, whole_parts}
+use Rattle.file_laws.proofs.Orbits.{ring-orbit, round-orbit, round_from}
+use Rattle.file_laws.proofs.Rotation.{rotation, signed_rise, at_leaves, face_of}
 use Rattle.navigate.specs.Bound.{map_with}
 use Rattle.navigate.specs.Least.{least, smallest_of, from_smallest}
 

@@ -16,14 +16,14 @@ use Rattle.code_laws.specs.declared.ring_number.RingNumber.TheVariants.{Outer}
 use Rattle.code_laws.proofs.Steps.{none_at}
 use Rattle.code_laws.proofs.Sound.{in_one, is_well, flat}
 use Rattle.code_laws.proofs.Numbered.{node-beside}
-use Rattle.pemb_file.specs.Contents.{Contents, component_count}
-use Rattle.pemb_file.specs.MapOfFile.{signed_at, face_at, face_at_place, place_of_ring, node_row, joined_count}
-use Rattle.pemb_file.specs.Lawful.{is_whole}
-use Rattle.pemb_file.proofs.Fits.{components_same}
-use Rattle.pemb_file.proofs.Whole.{WholeParts, whole_parts}
-use Rattle.pemb_file.proofs.Rotation.{at_leaves, face_of}
-use Rattle.pemb_file.proofs.Placed.{start_in, start_component}
-use Rattle.pemb_file.proofs.Positions.{outer_at}
+use Rattle.file_laws.specs.Contents.{Contents, component_count}
+use Rattle.file_laws.specs.MapOfFile.{signed_at, face_at, face_at_place, place_of_ring, node_row, joined_count}
+use Rattle.file_laws.specs.Lawful.{is_whole}
+use Rattle.file_laws.proofs.Fits.{components_same}
+use Rattle.file_laws.proofs.Whole.{WholeParts, whole_parts}
+use Rattle.file_laws.proofs.Rotation.{at_leaves, face_of}
+use Rattle.file_laws.proofs.Placed.{start_in, start_component}
+use Rattle.file_laws.proofs.Positions.{outer_at}
 use Rattle.navigate.specs.Bound.{map_with}
 use Rattle.navigate.proofs.MapLists.{Leaves, leaves_at, side_at}
 
@@ -69,7 +69,7 @@ module _ (c : Contents) (h : is_whole c ≡ true) where
 
   from_leaving : (p : ℕ) (ds : List ℤ) → p < length c.code.a → leaving m (slice_index c.nodes (node_of c.code p)) ≡ ds → node_of c.code p < length c.nodes
       → face_round m ds ≡ Some (face_at_place c (slice_index c.places (component_of c.code p)))
-  unfolding Rattle.pemb_file.specs.MapOfFile.node_at
+  unfolding Rattle.file_laws.specs.MapOfFile.node_at
   from_leaving p [] l e x_in =
       let own : has_edge [] (signed_at c p) ≡ true = subst (λ es. has_edge es (signed_at c p) ≡ true) e (at_leaves c w p l) in
       cc

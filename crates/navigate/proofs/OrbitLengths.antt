@@ -16,8 +16,8 @@ use Rattle.code_laws.proofs.Sound.{SoundParts, sound_parts}
 use Rattle.code_laws.proofs.Beside.{AreBeside}
 use Rattle.code_laws.proofs.Turned.{orbit_on}
 use Rattle.code_laws.proofs.Numbered.{of_orbit}
-use Rattle.pemb_file.specs.Contents.{Contents}
-use Rattle.pemb_file.specs.MapOfFile.{signed_at}
+use Rattle.file_laws.specs.Contents.{Contents}
+use Rattle.file_laws.specs.MapOfFile.{signed_at}
 use Rattle.navigate.specs.Bound.{line_digits}
 use Rattle.navigate.specs.Least.{from_smallest, smallest_of}
 use Rattle.navigate.specs.OrbitWalk.{contents_in, rest, price, allowance}

@@ -13,15 +13,15 @@ use Rattle.plane_model.specs.Sets.{has, is_distinct}
 use Rattle.plane_model.specs.Orders.{is_rising_edges, is_strictly_rising}
 use Rattle.plane_model.proofs.SortedEdges.{before_rank, before_from, rank}
 use Rattle.code_laws.specs.Code.{start_of}
-use Rattle.pemb_file.specs.Contents.{Contents, component_count}
-use Rattle.pemb_file.specs.MapOfFile.{signed_at}
-use Rattle.pemb_file.specs.Faults.{place_fault, order_fault, isolated_fault, places_fault, is_ordered, is_isolated, precedes, isolated_precedes, isolated_id, is_place}
-use Rattle.pemb_file.specs.Lawful.{is_whole, whole_tests}
-use Rattle.pemb_file.specs.declared.fault.FileFault.TheVariants as fault
-use Rattle.pemb_file.proofs.Lengths.{first_none, none-is_none}
-use Rattle.pemb_file.proofs.Lists.{has-index, index-has}
-use Rattle.pemb_file.proofs.Agreement.{test_at}
-use Rattle.pemb_file.proofs.Whole.{option_none}
+use Rattle.file_laws.specs.Contents.{Contents, component_count}
+use Rattle.file_laws.specs.MapOfFile.{signed_at}
+use Rattle.file_laws.specs.Faults.{place_fault, order_fault, isolated_fault, places_fault, is_ordered, is_isolated, precedes, isolated_precedes, isolated_id, is_place}
+use Rattle.file_laws.specs.Lawful.{is_whole, whole_tests}
+use Rattle.file_laws.specs.declared.fault.FileFault.TheVariants as fault
+use Rattle.file_laws.proofs.Lengths.{first_none, none-is_none}
+use Rattle.file_laws.proofs.Lists.{has-index, index-has}
+use Rattle.file_laws.proofs.Agreement.{test_at}
+use Rattle.file_laws.proofs.Whole.{option_none}
 use Rattle.navigate.specs.Bound.{line_digits}
 use Rattle.navigate.specs.Holes.{place_at}
 use Rattle.navigate.proofs.Facts.{w}

@@ -12,11 +12,11 @@ use Rattle.region_tree.specs.Nesting.{region_count, parent_number, upward, chain
 use Rattle.region_tree.specs.Numbering.{AreNumbered}
 use Rattle.region_tree.specs.RegionView.{Regions}
 use Rattle.region_tree.proofs.ByNumber.{parent-lower, chain-number, common-regions}
-use Rattle.pemb_file.specs.Contents.{Contents}
-use Rattle.pemb_file.specs.MapOfFile.{face_at_place}
-use Rattle.pemb_file.specs.Lawful.{is_whole}
+use Rattle.file_laws.specs.Contents.{Contents}
+use Rattle.file_laws.specs.MapOfFile.{face_at_place}
+use Rattle.file_laws.specs.Lawful.{is_whole}
 use Rattle.pemb_file.specs.Served.{regions_in}
-use Rattle.pemb_file.proofs.RegionNumbers.{numbered_of, member_of}
+use Rattle.file_laws.proofs.RegionNumbers.{numbered_of, member_of}
 use Rattle.navigate.specs.Bound.{map_with, line_digits, line_words}
 use Rattle.navigate.specs.RegionWalk.{contents_in, ids_up, rest, price, allowance}
 use Rattle.navigate.specs.declared.upward.RegionWalk.{RegionWalk}

@@ -1,8 +1,8 @@
 -- What a walk still gives and may still read, from the positions that are left.
 use Rattle.std.specs.Prelude.{map, MatchOption}
 use Rattle.std.proofs.Common.{◌≡◌, ℕ, suc, ◌+◌, ◌*◌, ◌≤◌, ℤ, List, [], ◌∷◌, length, ap, sym, ◌∙◌, arith, Option, Some, None}
-use Rattle.pemb_file.specs.Contents.{Contents}
-use Rattle.pemb_file.specs.MapOfFile.{signed_at}
+use Rattle.file_laws.specs.Contents.{Contents}
+use Rattle.file_laws.specs.MapOfFile.{signed_at}
 use Rattle.navigate.specs.Bound.{line_digits}
 use Rattle.navigate.specs.OrbitWalk.{contents_in, positions_left, rest, price, allowance}
 use Rattle.navigate.specs.declared.orbit_walk.OrbitWalk.{OrbitWalk}

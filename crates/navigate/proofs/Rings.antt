@@ -3,9 +3,9 @@ use Rattle.std.specs.Prelude.{slice_index}
 use Rattle.std.proofs.Common.{◌≡◌, ℕ, ◌+◌, ◌<◌, ◌≤◌, true, length, ap, sym, ◌∙◌, subst}
 use Rattle.code_laws.specs.Numbers.{ring_of}
 use Rattle.code_laws.specs.declared.ring_number.RingNumber.TheVariants.{Outer, Shell}
-use Rattle.pemb_file.specs.Contents.{Contents, component_count}
-use Rattle.pemb_file.specs.Lawful.{is_whole}
-use Rattle.pemb_file.proofs.Rotation.{RingAt, IsOuter, IsShell, ring_at}
+use Rattle.file_laws.specs.Contents.{Contents, component_count}
+use Rattle.file_laws.specs.Lawful.{is_whole}
+use Rattle.file_laws.proofs.Rotation.{RingAt, IsOuter, IsShell, ring_at}
 use Rattle.navigate.proofs.Facts.{w}
 
 module _ (c : Contents) (h : is_whole c ≡ true) where

@@ -15,10 +15,10 @@ use Rattle.code_laws.specs.declared.ring_number.RingNumber.{RingNumber}
 use Rattle.code_laws.specs.declared.ring_number.RingNumber.TheVariants.{Outer, Shell}
 use Rattle.code_laws.proofs.Selects.{pairs}
 use Rattle.code_laws.proofs.Sound.{sound_parts}
-use Rattle.pemb_file.specs.Contents.{Contents}
-use Rattle.pemb_file.specs.MapOfFile.{signed_at, face_at_place}
-use Rattle.pemb_file.specs.Lawful.{is_whole}
-use Rattle.pemb_file.proofs.Rotation.{shells_many}
+use Rattle.file_laws.specs.Contents.{Contents}
+use Rattle.file_laws.specs.MapOfFile.{signed_at, face_at_place}
+use Rattle.file_laws.specs.Lawful.{is_whole}
+use Rattle.file_laws.proofs.Rotation.{shells_many}
 use Rattle.navigate.specs.Bound.{map_with, line_digits, line_words}
 use Rattle.navigate.specs.Least.{smallest_of}
 use Rattle.navigate.specs.Holes.{components_between, outer_positions}

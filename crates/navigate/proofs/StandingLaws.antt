@@ -4,8 +4,8 @@ use Rattle.std.proofs.Common.{◌≡◌, ℕ, zero, suc, ◌+◌, ◌*◌, ◌<�
 use Rattle.std.proofs.lemmas.Bool.{cases_Bool, or_cases, or_left, or_right}
 use Rattle.std.proofs.Math.Nat.{mul-le-mul_left}
 use Rattle.std.proofs.lemmas.List.{map-append}
-use Rattle.pemb_file.specs.Contents.{Contents}
-use Rattle.pemb_file.specs.MapOfFile.{face_at_place}
+use Rattle.file_laws.specs.Contents.{Contents}
+use Rattle.file_laws.specs.MapOfFile.{face_at_place}
 use Rattle.navigate.specs.Bound.{line_digits}
 use Rattle.plane_model.specs.Sets.{has, first_occurrences_but}
 use Rattle.navigate.specs.Beside.{place_across, others, adjacent_places, unseen}

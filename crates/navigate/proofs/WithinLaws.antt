@@ -8,10 +8,10 @@ use Rattle.orbits.proofs.Lists.{in_either}
 use Rattle.plane_model.specs.Sets.{has}
 use Rattle.code_laws.specs.Code.{start_of, step}
 use Rattle.code_laws.specs.Orbits.{walk, orbit}
-use Rattle.pemb_file.specs.Contents.{Contents}
-use Rattle.pemb_file.specs.Lawful.{is_whole}
-use Rattle.pemb_file.proofs.Orbits.{next_carried, turn_carried}
-use Rattle.pemb_file.proofs.Placed.{start_in}
+use Rattle.file_laws.specs.Contents.{Contents}
+use Rattle.file_laws.specs.Lawful.{is_whole}
+use Rattle.file_laws.proofs.Orbits.{next_carried, turn_carried}
+use Rattle.file_laws.proofs.Placed.{start_in}
 use Rattle.navigate.specs.Holes.{components_between, outer_positions}
 use Rattle.navigate.specs.OrbitWalk as orbits
 use Rattle.navigate.specs.OrbitWalk.{positions_left}

@@ -1,8 +1,8 @@
 -- What a walk to the faces across the edges of a face gave, what it still gives, and what it may still read.
 use Rattle.std.specs.Prelude.{◌≡◌, ℕ, ◌+◌, ◌*◌, List, map, take, drop, length}
 use Rattle.plane_model.specs.Sets.{has}
-use Rattle.pemb_file.specs.Contents.{Contents}
-use Rattle.pemb_file.specs.MapOfFile.{face_at_place}
+use Rattle.file_laws.specs.Contents.{Contents}
+use Rattle.file_laws.specs.MapOfFile.{face_at_place}
 use Rattle.scratch_region.specs.Marks.{is_marked}
 use Rattle.scratch_region.specs.declared.marks.Marks.{Marks}
 use Rattle.navigate.specs.Bound.{line_digits}

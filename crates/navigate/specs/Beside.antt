@@ -3,8 +3,8 @@ use Rattle.std.specs.Prelude.{ℕ, ◌==◌, not, List, map, filter}
 use Rattle.code_laws.specs.Code.{mate}
 use Rattle.code_laws.specs.Numbers.{ring_of}
 use Rattle.plane_model.specs.Sets.{first_occurrences, first_occurrences_but}
-use Rattle.pemb_file.specs.Contents.{Contents}
-use Rattle.pemb_file.specs.MapOfFile.{place_of_ring}
+use Rattle.file_laws.specs.Contents.{Contents}
+use Rattle.file_laws.specs.MapOfFile.{place_of_ring}
 
 -- the place of the face across the edge at a position
 unfoldable pub place_across : Contents → ℕ → ℕ

@@ -3,8 +3,8 @@ use Rattle.std.specs.Prelude.{ℕ, ◌+◌, ◌*◌, List, length}
 use Rattle.bit_words.specs.Digits.{digits}
 use Rattle.plane_model.specs.PlaneMap.{PlaneMap, map_of}
 use Rattle.plane_model.specs.Consistent.{size}
-use Rattle.pemb_file.specs.Contents.{Contents}
-use Rattle.pemb_file.specs.MapOfFile.{rows_of_contents}
+use Rattle.file_laws.specs.Contents.{Contents}
+use Rattle.file_laws.specs.MapOfFile.{rows_of_contents}
 use Rattle.pemb_file.specs.Served.{contents_of_view}
 use Rattle.pemb_file.specs.declared.served.Served.{Served}
 

@@ -1,7 +1,7 @@
 -- What a walk along the rings of a face still gives, and what it may still read.
 use Rattle.std.specs.Prelude.{ℕ, ◌+◌, ◌*◌, ℤ, List, map, length, ◌++◌}
-use Rattle.pemb_file.specs.Contents.{Contents}
-use Rattle.pemb_file.specs.MapOfFile.{signed_at}
+use Rattle.file_laws.specs.Contents.{Contents}
+use Rattle.file_laws.specs.MapOfFile.{signed_at}
 use Rattle.pemb_file.specs.Served.{contents_of_view}
 use Rattle.navigate.specs.Bound.{line_digits}
 use Rattle.navigate.specs.Holes.{components_between, outer_positions}

@@ -3,7 +3,7 @@ use Rattle.std.specs.Prelude.{ℕ, ◌+◌, ◌-◌, ◌==◌, false, List, [], 
 use Rattle.std.specs.List.{range_with_len}
 use Rattle.code_laws.specs.Code.{start_of}
 use Rattle.code_laws.specs.Orbits.{orbit}
-use Rattle.pemb_file.specs.Contents.{Contents}
+use Rattle.file_laws.specs.Contents.{Contents}
 
 -- where the component lies that is entry i of the order
 abbrev pub place_at : Contents → ℕ → ℕ

@@ -3,9 +3,9 @@ use Rattle.std.specs.Prelude.{ℕ, ◌+◌, ◌-◌, ◌*◌, ℤ, List, map, le
 use Rattle.std.specs.List.{range_with_len}
 use Rattle.topo_base.specs.Script.{Item}
 use Rattle.code_laws.specs.Code.{start_of}
-use Rattle.pemb_file.specs.Contents.{Contents}
-use Rattle.pemb_file.specs.MapOfFile.{signed_at}
-use Rattle.pemb_file.specs.Faults.{isolated_id}
+use Rattle.file_laws.specs.Contents.{Contents}
+use Rattle.file_laws.specs.MapOfFile.{signed_at}
+use Rattle.file_laws.specs.Faults.{isolated_id}
 use Rattle.pemb_file.specs.Served.{contents_of_view}
 use Rattle.navigate.specs.Bound.{line_digits}
 use Rattle.navigate.specs.Holes.{components_between}

@@ -2,8 +2,8 @@
 use Rattle.std.specs.Prelude.{ℕ, ℤ, Bool, if◌then◌else◌, List, [], ◌∷◌, map}
 use Rattle.topo_base.specs.SignedEdge.{comes_before}
 use Rattle.code_laws.specs.Orbits.{orbit}
-use Rattle.pemb_file.specs.Contents.{Contents}
-use Rattle.pemb_file.specs.MapOfFile.{signed_at}
+use Rattle.file_laws.specs.Contents.{Contents}
+use Rattle.file_laws.specs.MapOfFile.{signed_at}
 
 -- the one of these positions, p among them, whose signed edge is the smallest
 unfoldable pub least : Contents → ℕ → List ℕ → ℕ

@@ -2,8 +2,8 @@
 use Rattle.std.specs.Prelude.{ℕ, ◌+◌, ◌*◌, ℤ, List, map, length}
 use Rattle.code_laws.specs.Code.{step}
 use Rattle.code_laws.specs.Orbits.{walk}
-use Rattle.pemb_file.specs.Contents.{Contents}
-use Rattle.pemb_file.specs.MapOfFile.{signed_at}
+use Rattle.file_laws.specs.Contents.{Contents}
+use Rattle.file_laws.specs.MapOfFile.{signed_at}
 use Rattle.pemb_file.specs.Served.{contents_of_view}
 use Rattle.navigate.specs.Bound.{line_digits}
 use Rattle.navigate.specs.declared.orbit_walk.OrbitWalk.{OrbitWalk}

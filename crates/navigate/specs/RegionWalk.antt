@@ -1,7 +1,7 @@
 -- What a walk from a region to its parents still gives, and what it may still read.
 use Rattle.std.specs.Prelude.{ℕ, ◌+◌, ◌*◌, List, [], map, length, slice_index, Option, Some, None}
 use Rattle.region_tree.specs.Nesting.{chain}
-use Rattle.pemb_file.specs.Contents.{Contents}
+use Rattle.file_laws.specs.Contents.{Contents}
 use Rattle.pemb_file.specs.Served.{contents_of_view}
 use Rattle.navigate.specs.Bound.{line_digits}
 use Rattle.navigate.specs.declared.upward.RegionWalk.{RegionWalk}

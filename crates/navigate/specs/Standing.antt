@@ -1,7 +1,7 @@
 -- Where a walk to the faces across the edges of a face stands.
 use Rattle.std.specs.Prelude.{ℕ, ◌≡◌, ◌≢◌, ◌≤◌, ◌+◌, false, List, ◌∷◌, take, drop, length}
 use Rattle.plane_model.specs.Sets.{has}
-use Rattle.pemb_file.specs.Contents.{Contents}
+use Rattle.file_laws.specs.Contents.{Contents}
 use Rattle.navigate.specs.Beside.{place_across, adjacent_places, unseen}
 
 -- g is the place across the edge at p, another than `place` and not seen

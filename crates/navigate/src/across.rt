@@ -31,7 +31,7 @@ pub struct AdjacentWalk<'a> {
 impl<'a> AdjacentWalk<'a> {
     ghost use Rattle.std.specs.Prelude.{◌≡◌, ◌<◌, ◌≤◌, ◌+◌, ◌*◌, ◌∷◌, ◌++◌, [], map, length, option_map, option_to_list, IsSome, IsNone, MatchOption};
     ghost use Rattle.scratch_region.specs.Marks.{room_of, IsEmpty};
-    ghost use Rattle.pemb_file.specs.MapOfFile.{face_at_place};
+    ghost use Rattle.file_laws.specs.MapOfFile.{face_at_place};
     ghost use Rattle.navigate.specs.Beside.{adjacent_places};
     ghost use Rattle.navigate.specs.FaceWalk as rings;
     ghost use Rattle.navigate.specs.FaceWalk.{pass_price};

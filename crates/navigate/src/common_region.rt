@@ -3,7 +3,7 @@
 ghost use Rattle.std.specs.Prelude.{◌≡◌, ◌≤◌, ◌+◌, ◌*◌, ◌&&◌, length, is_some, option_map, option_to_list, IfSome, IsSome, IsNone, MatchOption};
 ghost use Rattle.plane_model.specs.Rotation.{is_face};
 ghost use Rattle.plane_model.specs.Regions.{chain, common as common_region};
-ghost use Rattle.pemb_file.specs.MapOfFile.{face_at_place};
+ghost use Rattle.file_laws.specs.MapOfFile.{face_at_place};
 ghost use Rattle.pemb_file.specs.Served.{contents_of_view};
 ghost use Rattle.navigate.specs.Bound.{served_map, most_words, line_digits};
 ghost use Rattle.navigate.specs.RegionWalk.{rest, allowance};

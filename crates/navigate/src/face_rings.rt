@@ -35,7 +35,7 @@ impl<'a> FaceWalk<'a> {
     ghost use Rattle.navigate.specs.OrbitWalk as orbits;
     ghost use Rattle.navigate.specs.FaceWalk.{contents_in, face_positions, rest, allowance};
     ghost use Rattle.navigate.specs.Beside.{place_across};
-    ghost use Rattle.pemb_file.specs.MapOfFile.{face_at_place};
+    ghost use Rattle.file_laws.specs.MapOfFile.{face_at_place};
 
     /// What is left of a ring, and then the outer rings of components from one entry of the order to before another.
     pub(crate) fn settled<C: Ledger>(
@@ -89,7 +89,7 @@ impl<'a> FaceWalk<'a> {
     }
 
     /// The next position, or None at the end.
-    pub(crate) fn pass<C: Ledger>(&mut self, steps: &mut Steps<C>) -> Option<usize>
+    pub fn pass<C: Ledger>(&mut self, steps: &mut Steps<C>) -> Option<usize>
         ensures contents { contents_in self.new ≡ contents_in self.old }
         ensures next { MatchOption result (face_positions self.old ≡ []) (λ p. face_positions self.old ≡ p ∷ face_positions self.new) }
         ensures within { MatchOption result (face_positions self.new ≡ []) (λ p. p < length (contents_in self.old).code.a) }
@@ -106,7 +106,7 @@ impl<'a> FaceWalk<'a> {
     }
 
     /// The place of the face across the edge at a position.
-    pub(crate) fn place_across<C: Ledger>(&self, p: usize, steps: &mut Steps<C>) -> usize
+    pub fn place_across<C: Ledger>(&self, p: usize, steps: &mut Steps<C>) -> usize
         requires { p < length (contents_in self.now).code.a }
         ensures place { result ≡ place_across (contents_in self.now) p }
         ensures within { result ≤ length (contents_in self.now).faces }

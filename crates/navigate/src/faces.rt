@@ -4,7 +4,7 @@ ghost use Rattle.std.specs.Prelude.{◌≡◌, ◌<◌, ◌≤◌, ◌+◌, ◌*
 ghost use Rattle.plane_model.specs.Rotation.{is_face};
 ghost use Rattle.plane_model.specs.Lists.{face_edges, shell, ring_if_some};
 ghost use Rattle.pemb_file.specs.Served.{contents_of_view};
-ghost use Rattle.pemb_file.specs.MapOfFile.{face_at_place};
+ghost use Rattle.file_laws.specs.MapOfFile.{face_at_place};
 ghost use Rattle.navigate.specs.Bound.{served_map, most_words, line_digits};
 ghost use Rattle.navigate.specs.OrbitWalk as orbits;
 ghost use Rattle.navigate.specs.FaceWalk.{contents_in, rest, allowance};
@@ -21,7 +21,7 @@ use topo_base::FaceId;
 
 /// The walk along the rings of the face at a place: its shell from the smallest signed edge on, which face 0 has not,
 /// and then the outer ring of each component in it.
-pub(crate) fn rings_at<'a, C: Ledger>(
+pub fn rings_at<'a, C: Ledger>(
     served: Served<'a>,
     place: usize,
     steps: &mut Steps<C>,

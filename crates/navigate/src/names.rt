@@ -3,9 +3,9 @@
 ghost use Rattle.std.specs.Prelude.{◌≡◌, ◌<◌, ◌≤◌, ◌+◌, ◌*◌, length, slice_index, is_some, IfSome, Some};
 ghost use Rattle.plane_model.specs.Answers.{has_node};
 ghost use Rattle.plane_model.specs.Rotation.{is_face};
-ghost use Rattle.pemb_file.specs.MapOfFile.{face_at_place, face_at, node_at};
+ghost use Rattle.file_laws.specs.MapOfFile.{face_at_place, face_at, node_at};
 ghost use Rattle.plane_model.specs.Lists.{containing};
-ghost use Rattle.pemb_file.specs.Faults.{isolated_id};
+ghost use Rattle.file_laws.specs.Faults.{isolated_id};
 ghost use Rattle.pemb_file.specs.Served.{contents_of_view};
 ghost use Rattle.navigate.specs.Bound.{served_map, line_digits};
 

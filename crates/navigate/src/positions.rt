@@ -4,7 +4,7 @@ ghost use Rattle.std.specs.Prelude.{◌≡◌, ◌<◌, ◌≤◌, ◌+◌, ◌*
 ghost use Rattle.code_laws.specs.Code.{step, mate};
 ghost use Rattle.code_laws.specs.Numbers.{ring_of};
 ghost use Rattle.plane_model.specs.Answers.{has_signed_edge};
-ghost use Rattle.pemb_file.specs.MapOfFile.{signed_at, place_of_ring};
+ghost use Rattle.file_laws.specs.MapOfFile.{signed_at, place_of_ring};
 ghost use Rattle.pemb_file.specs.Served.{contents_of_view};
 ghost use Rattle.navigate.specs.Bound.{line_digits, served_map};
 

@@ -3,10 +3,10 @@ use Rattle.std.proofs.Common.{◌≡◌, ◌+◌, ◌*◌, ◌≤◌, arith, lit
 use Rattle.std.proofs.Math.Nat.{mul-le-mul_left, mul-le-mul_right}
 use Rattle.bit_words.specs.Digits.{digits}
 use Rattle.bit_words.proofs.DigitLaws.{digits-half, digits-mono}
-use Rattle.pemb_file.specs.Layout.{HeaderCounts}
-use Rattle.pemb_file.specs.Lawful.{file_size}
-use Rattle.pemb_file.specs.Faults.{count_fault}
-use Rattle.pemb_file.proofs.Sections.{counts_fit}
+use Rattle.file_laws.specs.Layout.{HeaderCounts}
+use Rattle.file_laws.specs.Lawful.{file_size}
+use Rattle.file_laws.specs.Faults.{count_fault}
+use Rattle.file_laws.proofs.Sections.{counts_fit}
 
 two_digits : 2 ≤ digits 2
 two_digits = let a = digits-half 2 (lit< tt) in let b = digits-half 1 (lit< tt) in omega (arith, a, b)

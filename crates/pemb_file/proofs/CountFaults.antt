@@ -3,9 +3,9 @@ use Rattle.std.specs.Prelude.{nat_le, nat_lt}
 use Rattle.std.proofs.Common.{◌≡◌, ℕ, ◌<◌, ◌≤◌, Bool, true, false, ◌&&◌, ◌||◌, ◌==◌, refl, arith, Some, None}
 use Rattle.std.proofs.lemmas.Bool.Decides.{nat_tests}
 use Rattle.code_laws.specs.SeqFault.{first_some}
-use Rattle.pemb_file.specs.Layout.{HeaderCounts, node_count}
-use Rattle.pemb_file.specs.Faults.{count_fault, most}
-use Rattle.pemb_file.specs.declared.fault.FileFault.TheVariants as fault
+use Rattle.file_laws.specs.Layout.{HeaderCounts, node_count}
+use Rattle.file_laws.specs.Faults.{count_fault, most}
+use Rattle.file_laws.specs.declared.fault.FileFault.TheVariants as fault
 
 above : (x y : ℕ) → y < x → nat_le x y ≡ false
 above x y h = grind (arith, nat_tests)

@@ -5,8 +5,8 @@ use Rattle.std.proofs.lemmas.Bool.{eq-eqb, ne_eqb}
 use Rattle.std.proofs.Math.Seq.{take-length}
 use Rattle.sha2.specs.Sha256.{sha256}
 use Rattle.bit_words.proofs.Finds.{find-least, find-none}
-use Rattle.pemb_file.specs.Faults.{digest_fault}
-use Rattle.pemb_file.specs.declared.fault.FileFault.TheVariants as fault
+use Rattle.file_laws.specs.Faults.{digest_fault}
+use Rattle.file_laws.specs.declared.fault.FileFault.TheVariants as fault
 
 -- the digest in the header and the right one are the same below a byte
 abbrev pub SameBelow : List ℕ → List ℕ → ℕ → Type 0

@@ -5,9 +5,9 @@ use Rattle.std.proofs.lemmas.Bool.{cases_Bool, lt-ltb}
 use Rattle.std.proofs.lemmas.Bool.Decides.{nat_tests}
 use Rattle.std.proofs.Math.Seq.{take-append_seam, drop-append_seam, drop-append-add}
 use Rattle.std.proofs.lemmas.List.{drop-drop, get_or_append_left}
-use Rattle.pemb_file.specs.Layout.{section_words, total_words, words_before, no_section, section_bits}
-use Rattle.pemb_file.specs.Faults.{is_padded, padding_from}
-use Rattle.pemb_file.specs.Image.{Filled, section_of, words_of_filled, packed}
+use Rattle.file_laws.specs.Layout.{section_words, total_words, words_before, no_section, section_bits}
+use Rattle.file_laws.specs.Faults.{is_padded, padding_from}
+use Rattle.file_laws.specs.Image.{Filled, section_of, words_of_filled, packed}
 use Rattle.bit_words.specs.Lists.{tabulate}
 use Rattle.pemb_file.specs.Written.{AllFit}
 use Rattle.pemb_file.proofs.Packed.{length-packed, padded}

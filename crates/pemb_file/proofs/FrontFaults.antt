@@ -3,11 +3,11 @@ use Rattle.std.specs.Prelude.{nat_le, slice_index}
 use Rattle.std.proofs.Common.{◌≡◌, ℕ, ◌%◌, ◌≤◌, ◌&&◌, ◌==◌, List, [], ◌∷◌, length, refl, ap, sym, ◌∙◌, arith, Option, Some, None}
 use Rattle.plane_model.specs.Sets.{or_else}
 use Rattle.code_laws.specs.SeqFault.{first_some}
-use Rattle.pemb_file.specs.Layout.{HeaderCounts, counts_in, words_of, file_words, header_words}
-use Rattle.pemb_file.specs.Faults.{front_fault, digest_fault, count_fault, unless, magic}
-use Rattle.pemb_file.specs.declared.fault.FileFault.{FileFault}
-use Rattle.pemb_file.specs.declared.fault.FileFault.TheVariants as fault
-use Rattle.pemb_file.proofs.Lengths.{unless-true, words_of-length}
+use Rattle.file_laws.specs.Layout.{HeaderCounts, counts_in, words_of, file_words, header_words}
+use Rattle.file_laws.specs.Faults.{front_fault, digest_fault, count_fault, unless, magic}
+use Rattle.file_laws.specs.declared.fault.FileFault.{FileFault}
+use Rattle.file_laws.specs.declared.fault.FileFault.TheVariants as fault
+use Rattle.file_laws.proofs.Lengths.{unless-true, words_of-length}
 use Rattle.std.proofs.lemmas.Bool.{eqb-true}
 
 pub first-some : {X : Type 0} (o : Option X) (os : List (Option X)) (x : X) → o ≡ Some x → first_some (o ∷ os) ≡ Some x

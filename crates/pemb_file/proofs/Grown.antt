@@ -6,7 +6,7 @@ use Rattle.bit_words.specs.Bits.{HoldsBits, fields_in}
 use Rattle.bit_words.specs.Packed.{PackedList, Packs}
 use Rattle.bit_words.proofs.Streams.{length-fields_in}
 use Rattle.id_names.specs.Names.{name_fault}
-use Rattle.pemb_file.specs.Image.{Filled, words_of_filled, with_bits, with_fields, with_words, bytes_of, order_of}
+use Rattle.file_laws.specs.Image.{Filled, words_of_filled, with_bits, with_fields, with_words, bytes_of, order_of}
 use Rattle.pemb_file.specs.Written.{AllFit, Written}
 use Rattle.pemb_file.proofs.Packed.{packed_bits, packed_is, whole_packed, ones-below, fields-below}
 use Rattle.pemb_file.proofs.ImageBytes.{bytes_of-append}

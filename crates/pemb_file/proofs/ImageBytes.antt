@@ -6,7 +6,7 @@ use Rattle.std.proofs.lemmas.List.{append-nil, drop_all, take_all, take-append-d
 use Rattle.std.proofs.lemmas.Nat.{from_le_bytes-to_le_bytes_8}
 use Rattle.bit_words.specs.Words.{words_in}
 use Rattle.bit_words.proofs.WordLists.{words_in-part, length-words_in}
-use Rattle.pemb_file.specs.Image.{bytes_of}
+use Rattle.file_laws.specs.Image.{bytes_of}
 
 -- the bytes of one word
 pub bytes_of-cons : (word : ℕ) (words : List ℕ) → bytes_of (word ∷ words) ≡ to_le_bytes w64 word ++ bytes_of words

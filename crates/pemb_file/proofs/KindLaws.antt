@@ -5,10 +5,10 @@ use Rattle.std.proofs.lemmas.Grind.{common_steps}
 use Rattle.rank_select.specs.Counts.{blocks}
 use Rattle.min_max_tree.specs.Tree.{tree_size}
 use Rattle.min_max_tree.proofs.Sizes.{tree-le}
-use Rattle.pemb_file.specs.Layout.{HeaderCounts, Section, section, sections, section_words, section_from, counts_in, part, face_count}
+use Rattle.file_laws.specs.Layout.{HeaderCounts, Section, section, sections, section_words, section_from, counts_in, part, face_count}
 use Rattle.pemb_file.specs.Kinds.{has_bits, has_fields, is_tree, is_directory, is_named}
-use Rattle.pemb_file.specs.Faults.{count_fault}
-use Rattle.pemb_file.proofs.Sections.{CountsFit, counts_fit}
+use Rattle.file_laws.specs.Faults.{count_fault}
+use Rattle.file_laws.proofs.Sections.{CountsFit, counts_fit}
 use Rattle.pemb_file.proofs.SectionTable.{each}
 
 pub record InRange (n : ℕ) : Type 0 where

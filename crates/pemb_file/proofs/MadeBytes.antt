@@ -3,10 +3,10 @@ use Rattle.std.specs.Prelude.{flat_map}
 use Rattle.std.proofs.Common.{◌≡◌, ℕ, ◌≤◌, List, [], ◌∷◌, ◌++◌, length, take, drop, refl, ap, sym, ◌∙◌, arith, append_assoc, length-append}
 use Rattle.std.proofs.Math.Seq.{take-append_seam, drop-append_seam}
 use Rattle.sha2.specs.Sha256.{sha256}
-use Rattle.pemb_file.specs.Layout.{HeaderCounts}
-use Rattle.pemb_file.specs.Contents.{Contents}
-use Rattle.pemb_file.specs.Faults.{magic}
-use Rattle.pemb_file.specs.Image.{counts_of_contents, content_words, filled, words_of_filled, bytes_of, image_of}
+use Rattle.file_laws.specs.Layout.{HeaderCounts}
+use Rattle.file_laws.specs.Contents.{Contents}
+use Rattle.file_laws.specs.Faults.{magic}
+use Rattle.file_laws.specs.Image.{counts_of_contents, content_words, filled, words_of_filled, bytes_of, image_of}
 use Rattle.pemb_file.specs.Written.{Written}
 use Rattle.pemb_file.proofs.ImageBytes.{length-bytes_of, bytes_of-append}
 

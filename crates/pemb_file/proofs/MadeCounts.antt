@@ -13,13 +13,13 @@ use Rattle.code_laws.specs.Code.{Code, start_of}
 use Rattle.code_laws.specs.Numbers.{tree_edges}
 use Rattle.code_laws.proofs.Sound.{IsLaidOut, whole}
 use Rattle.code_laws.proofs.Edges.{closed}
-use Rattle.pemb_file.specs.Layout.{HeaderCounts, Section, sections, section_words, bits, fields, whole_words, file_words, total_words}
-use Rattle.pemb_file.specs.Contents.{Contents, component_count}
-use Rattle.pemb_file.specs.Lawful.{is_whole, has_sizes, size_tests, whole_tests}
-use Rattle.pemb_file.specs.Faults.{count_fault}
-use Rattle.pemb_file.specs.Image.{counts_of_contents, filled, section_of, ones, order_of}
-use Rattle.pemb_file.proofs.Agreement.{test_at, whole_seen}
-use Rattle.pemb_file.proofs.Lists.{length-rising}
+use Rattle.file_laws.specs.Layout.{HeaderCounts, Section, sections, section_words, bits, fields, whole_words, file_words, total_words}
+use Rattle.file_laws.specs.Contents.{Contents, component_count}
+use Rattle.file_laws.specs.Lawful.{is_whole, has_sizes, size_tests, whole_tests}
+use Rattle.file_laws.specs.Faults.{count_fault}
+use Rattle.file_laws.specs.Image.{counts_of_contents, filled, section_of, ones, order_of}
+use Rattle.file_laws.proofs.Agreement.{test_at, whole_seen}
+use Rattle.file_laws.proofs.Lists.{length-rising}
 use Rattle.pemb_file.proofs.CountFaults.{no_count, fit}
 
 -- how many of each there are

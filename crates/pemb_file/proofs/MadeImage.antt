@@ -15,16 +15,16 @@ use Rattle.min_max_tree.specs.Tree.{nodes_of}
 use Rattle.code_laws.specs.Code.{Code, code_with}
 use Rattle.code_laws.specs.SeqFault.{seq_fault, is_sound, first_some}
 use Rattle.id_names.specs.Names.{name_fault}
-use Rattle.pemb_file.specs.Layout.{sections, section, section_from, section_words, counts_in, words_of, part, bits_at, fields_at, header_words, file_words, total_words, words_before, no_section}
-use Rattle.pemb_file.specs.Contents.{Contents, contents_of, contents_with}
-use Rattle.pemb_file.specs.Faults.{front_fault, digest_fault, count_fault, directories_fault, all_names_fault, places_fault, start_fault, regions_fault, padding_fault, padding_from, magic, directory_fault}
-use Rattle.pemb_file.specs.Lawful.{is_lawful, is_whole, first_fault, content_fault, whole_tests}
-use Rattle.pemb_file.specs.Image.{Filled, counts_of_contents, counts_words, content_words, filled, section_of, words_of_filled, with_bits, with_fields, with_words, packed, ones, order_of, bytes_of, image_of}
+use Rattle.file_laws.specs.Layout.{sections, section, section_from, section_words, counts_in, words_of, part, bits_at, fields_at, header_words, file_words, total_words, words_before, no_section}
+use Rattle.file_laws.specs.Contents.{Contents, contents_of, contents_with}
+use Rattle.file_laws.specs.Faults.{front_fault, digest_fault, count_fault, directories_fault, all_names_fault, places_fault, start_fault, regions_fault, padding_fault, padding_from, magic, directory_fault}
+use Rattle.file_laws.specs.Lawful.{is_lawful, is_whole, first_fault, content_fault, whole_tests}
+use Rattle.file_laws.specs.Image.{Filled, counts_of_contents, counts_words, content_words, filled, section_of, words_of_filled, with_bits, with_fields, with_words, packed, ones, order_of, bytes_of, image_of}
 use Rattle.pemb_file.specs.Written.{AllFit, AreOrdered}
-use Rattle.pemb_file.specs.declared.fault.FileFault.{FileFault}
-use Rattle.pemb_file.specs.declared.fault.FileFault.TheVariants as fault
-use Rattle.pemb_file.proofs.Agreement.{test_at}
-use Rattle.pemb_file.proofs.Lengths.{none-is_none}
+use Rattle.file_laws.specs.declared.fault.FileFault.{FileFault}
+use Rattle.file_laws.specs.declared.fault.FileFault.TheVariants as fault
+use Rattle.file_laws.proofs.Agreement.{test_at}
+use Rattle.file_laws.proofs.Lengths.{none-is_none}
 use Rattle.pemb_file.proofs.FrontFaults.{front-none, first-none, first-end}
 use Rattle.pemb_file.proofs.DigestFault.{digest-right}
 use Rattle.pemb_file.proofs.Packed.{bits-packed, fields-packed, whole_packed, packed-below}

@@ -3,10 +3,10 @@ use Rattle.std.specs.Prelude.{not, nat_le, slice_index}
 use Rattle.std.proofs.Common.{◌≡◌, ℕ, ◌<◌, ◌≤◌, true, false, List, length, ap, ◌∙◌, arith, Some, None}
 use Rattle.std.proofs.lemmas.Bool.Decides.{nat_tests}
 use Rattle.bit_words.proofs.Finds.{find-least, find-none}
-use Rattle.pemb_file.specs.Layout.{counts_in, fields_at}
-use Rattle.pemb_file.specs.Contents.{Contents, contents_of}
-use Rattle.pemb_file.specs.Faults.{member_fault}
-use Rattle.pemb_file.proofs.Sections.{length-fields}
+use Rattle.file_laws.specs.Layout.{counts_in, fields_at}
+use Rattle.file_laws.specs.Contents.{Contents, contents_of}
+use Rattle.file_laws.specs.Faults.{member_fault}
+use Rattle.file_laws.proofs.Sections.{length-fields}
 use Rattle.pemb_file.proofs.SectionTable.{counted}
 
 not-above : (x y : ℕ) → x ≤ y → not (nat_le x y) ≡ false

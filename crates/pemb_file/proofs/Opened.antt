@@ -5,15 +5,15 @@ use Rattle.plane_model.specs.Sets.{or_else}
 use Rattle.parens.specs.Matching.{balance_fault}
 use Rattle.code_laws.specs.Code.{Code}
 use Rattle.code_laws.specs.SeqFault.{first_some, seq_fault}
-use Rattle.pemb_file.specs.Layout.{counts_in, words_of, bits_at, fields_at}
-use Rattle.pemb_file.specs.Contents.{contents_of, contents_with}
-use Rattle.pemb_file.specs.Faults.{front_fault, digest_fault, count_fault, directories_fault, names_fault, all_names_fault, places_fault, start_fault, regions_fault, padding_fault}
-use Rattle.pemb_file.specs.Lawful.{first_fault, content_fault, is_whole}
-use Rattle.pemb_file.specs.declared.fault.FileFault.{FileFault}
-use Rattle.pemb_file.specs.declared.fault.FileFault.TheVariants as fault
-use Rattle.pemb_file.proofs.Lengths.{first_none}
-use Rattle.pemb_file.proofs.Whole.{option_none}
-use Rattle.pemb_file.proofs.Sections.{counts_fit, whole_words}
+use Rattle.file_laws.specs.Layout.{counts_in, words_of, bits_at, fields_at}
+use Rattle.file_laws.specs.Contents.{contents_of, contents_with}
+use Rattle.file_laws.specs.Faults.{front_fault, digest_fault, count_fault, directories_fault, names_fault, all_names_fault, places_fault, start_fault, regions_fault, padding_fault}
+use Rattle.file_laws.specs.Lawful.{first_fault, content_fault, is_whole}
+use Rattle.file_laws.specs.declared.fault.FileFault.{FileFault}
+use Rattle.file_laws.specs.declared.fault.FileFault.TheVariants as fault
+use Rattle.file_laws.proofs.Lengths.{first_none}
+use Rattle.file_laws.proofs.Whole.{option_none}
+use Rattle.file_laws.proofs.Sections.{counts_fit, whole_words}
 use Rattle.pemb_file.proofs.FrontFaults.{begun_fault, first-some, first-none, first-last}
 
 -- the names of each class

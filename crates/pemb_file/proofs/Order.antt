@@ -9,8 +9,8 @@ use Rattle.plane_model.specs.Orders.{is_strictly_rising}
 use Rattle.plane_model.proofs.Sorting.{strictly_rising_of}
 use Rattle.id_names.specs.Names.{AreDistinctIds, number_of, name_fault, id_at}
 use Rattle.id_names.proofs.NameLaws.{named, place_of, number_of-at, right_names, rising as ids_rise}
-use Rattle.pemb_file.specs.Image.{order_of}
-use Rattle.pemb_file.proofs.Lists.{has-index, index-has, names_apart}
+use Rattle.file_laws.specs.Image.{order_of}
+use Rattle.file_laws.proofs.Lists.{has-index, index-has, names_apart}
 
 all_above : (x : ℕ) (xs : List ℕ) → ((k : ℕ) → k < length xs → x < slice_index xs k) → list_all (nat_lt x) xs ≡ true
 all_above x [] h = refl

@@ -11,7 +11,7 @@ use Rattle.bit_words.specs.Packed.{Packs}
 use Rattle.bit_words.specs.Lists.{tabulate}
 use Rattle.bit_words.proofs.BitLists.{length-tabulate, get_or-tabulate, bit_of-word}
 use Rattle.bit_words.proofs.Streams.{stream-drop, stream-at, length-fields_in, get_or-fields_in, Packs-bits, bits_in-held}
-use Rattle.pemb_file.specs.Image.{joined, packed, ones}
+use Rattle.file_laws.specs.Image.{joined, packed, ones}
 
 no_power : (width : ℕ) → 2 ^ (0 * width) ≡ 1
 no_power width = let e : 0 * width ≡ 0 = omega arith in rw e refl

@@ -2,10 +2,10 @@
 use Rattle.std.specs.Prelude.{option_map}
 use Rattle.std.proofs.Common.{◌≡◌, ℕ, ◌+◌, ◌-◌, ◌*◌, ◌/◌, ◌%◌, ◌<◌, ◌≤◌, inl, inr, true, false, List, [], ◌∷◌, drop, refl, ap, sym, ◌∙◌, arith, Option, Some, None}
 use Rattle.std.proofs.lemmas.Bool.{cases_eq}
-use Rattle.pemb_file.specs.Layout.{HeaderCounts, Section, section, sections, section_bits, section_words, section_from, counts_in, header_words}
-use Rattle.pemb_file.specs.Faults.{is_padded, padding_from, padding_fault}
-use Rattle.pemb_file.specs.declared.fault.FileFault.TheVariants as fault
-use Rattle.pemb_file.proofs.Following.{section_first, section_next}
+use Rattle.file_laws.specs.Layout.{HeaderCounts, Section, section, sections, section_bits, section_words, section_from, counts_in, header_words}
+use Rattle.file_laws.specs.Faults.{is_padded, padding_from, padding_fault}
+use Rattle.file_laws.specs.declared.fault.FileFault.TheVariants as fault
+use Rattle.file_laws.proofs.Following.{section_first, section_next}
 use Rattle.pemb_file.proofs.SectionTable.{each}
 
 pad-here : (words : List ℕ) (from : ℕ) (s : Section) (more : List Section) → is_padded (drop from words) (section_bits s) ≡ true → padding_from words from (s ∷ more) ≡ padding_from words (from + section_words s) more

@@ -10,9 +10,9 @@ use Rattle.code_laws.specs.Numbers.{edge_of}
 use Rattle.code_laws.specs.SeqFault.{is_sound}
 use Rattle.code_laws.proofs.Sound.{sound_parts, rises, start_within}
 use Rattle.topo_base.specs.SignedEdge.{comes_before}
-use Rattle.pemb_file.specs.Contents.{Contents, component_count}
-use Rattle.pemb_file.specs.MapOfFile.{signed_at}
-use Rattle.pemb_file.specs.Faults.{place_fault, order_fault, isolated_fault, is_place, begins_before, precedes, is_ordered, is_isolated}
+use Rattle.file_laws.specs.Contents.{Contents, component_count}
+use Rattle.file_laws.specs.MapOfFile.{signed_at}
+use Rattle.file_laws.specs.Faults.{place_fault, order_fault, isolated_fault, is_place, begins_before, precedes, is_ordered, is_isolated}
 use Rattle.pemb_file.proofs.Nots.{PassBelow, first-not, none-not}
 
 same-beq : (a b : Bool) → same a b ≡ beq a b

@@ -3,12 +3,12 @@ use Rattle.std.proofs.Common.{◌≡◌, ℕ, ◌+◌, ◌*◌, Bool, List, [], 
 use Rattle.bit_words.specs.Digits.{digits}
 use Rattle.code_laws.specs.Code.{Code}
 use Rattle.id_names.proofs.NameLaws.{right_names}
-use Rattle.pemb_file.specs.Layout.{counts_in, bits_at, fields_at}
-use Rattle.pemb_file.specs.Contents.{Contents, contents_of, contents_with}
-use Rattle.pemb_file.specs.MapOfFile.{signed_at}
+use Rattle.file_laws.specs.Layout.{counts_in, bits_at, fields_at}
+use Rattle.file_laws.specs.Contents.{Contents, contents_of, contents_with}
+use Rattle.file_laws.specs.MapOfFile.{signed_at}
 use Rattle.pemb_file.specs.PlacedFits.{PlacedFits}
-use Rattle.pemb_file.specs.Faults.{names_fault, count_fault, places_fault, place_fault, order_fault, isolated_fault, start_fault}
-use Rattle.pemb_file.proofs.Sections.{sections_have, counts_fit}
+use Rattle.file_laws.specs.Faults.{names_fault, count_fault, places_fault, place_fault, order_fault, isolated_fault, start_fault}
+use Rattle.file_laws.proofs.Sections.{sections_have, counts_fit}
 
 abbrev pub without_regions : List ℕ → Contents
 without_regions words =

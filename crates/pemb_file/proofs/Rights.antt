@@ -17,16 +17,16 @@ use Rattle.parens.proofs.Balances.{balanced-none}
 use Rattle.code_laws.specs.SeqFault.{is_sound}
 use Rattle.code_laws.proofs.Sound.{sound_parts, whole}
 use Rattle.region_tree.proofs.Stacks.{balanced_all}
-use Rattle.pemb_file.specs.Layout.{counts_in, section, section_from, section_words, file_words, bits_at, fields_at, part}
-use Rattle.pemb_file.specs.Contents.{contents_of}
+use Rattle.file_laws.specs.Layout.{counts_in, section, section_from, section_words, file_words, bits_at, fields_at, part}
+use Rattle.file_laws.specs.Contents.{contents_of}
 use Rattle.pemb_file.specs.Kinds.{is_directory, is_tree}
 use Rattle.pemb_file.specs.Parens.{HasParens}
-use Rattle.pemb_file.specs.Faults.{directories_fault, regions_fault}
-use Rattle.pemb_file.specs.declared.fault.FileFault.TheVariants as fault
-use Rattle.pemb_file.proofs.Lengths.{first_none}
-use Rattle.pemb_file.proofs.Whole.{option_none}
-use Rattle.pemb_file.proofs.Sections.{length-bits, length-fields}
-use Rattle.pemb_file.proofs.Following.{section_within}
+use Rattle.file_laws.specs.Faults.{directories_fault, regions_fault}
+use Rattle.file_laws.specs.declared.fault.FileFault.TheVariants as fault
+use Rattle.file_laws.proofs.Lengths.{first_none}
+use Rattle.file_laws.proofs.Whole.{option_none}
+use Rattle.file_laws.proofs.Sections.{length-bits, length-fields}
+use Rattle.file_laws.proofs.Following.{section_within}
 use Rattle.pemb_file.proofs.KindLaws.{directory-count, tree-words}
 
 none_wrong : (want found : List ℕ) → length found ≡ length want → first_wrong want found ≡ None → found ≡ want

@@ -4,7 +4,7 @@ use Rattle.std.proofs.Common.{lit≤, List, [], ◌∷◌, ◌^◌, ◌≡◌, �
 use Rattle.std.proofs.lemmas.Bool.{cases_eq}
 use Rattle.rank_select.specs.Counts.{blocks}
 use Rattle.min_max_tree.proofs.Sizes.{tree-le}
-use Rattle.pemb_file.specs.Layout.{HeaderCounts, section, sections, face_count, node_count}
+use Rattle.file_laws.specs.Layout.{HeaderCounts, section, sections, face_count, node_count}
 
 -- the bits of each field, section by section
 abbrev pub widths : List ℕ

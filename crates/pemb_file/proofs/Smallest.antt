@@ -9,11 +9,11 @@ use Rattle.code_laws.specs.SeqFault.{is_sound}
 use Rattle.code_laws.proofs.Sound.{sound_parts, last_start, start_within}
 use Rattle.turan_code.proofs.Views.{stands}
 use Rattle.topo_base.specs.SignedEdge.{comes_before}
-use Rattle.pemb_file.specs.Contents.{Contents}
-use Rattle.pemb_file.specs.MapOfFile.{signed_at}
-use Rattle.pemb_file.specs.Faults.{is_smallest, start_fault}
-use Rattle.pemb_file.specs.declared.fault.FileFault.TheVariants as fault
-use Rattle.pemb_file.proofs.Lists.{list_all-at}
+use Rattle.file_laws.specs.Contents.{Contents}
+use Rattle.file_laws.specs.MapOfFile.{signed_at}
+use Rattle.file_laws.specs.Faults.{is_smallest, start_fault}
+use Rattle.file_laws.specs.declared.fault.FileFault.TheVariants as fault
+use Rattle.file_laws.proofs.Lists.{list_all-at}
 use Rattle.pemb_file.proofs.Nots.{PassBelow, first-not, none-not}
 
 all_from : (test : ℕ → Bool) (low n : ℕ) → ((x : ℕ) → low ≤ x → x < low + n → test x ≡ true) → list_all test (range_with_len low n) ≡ true

@@ -18,14 +18,14 @@ use Rattle.plane_model.specs.Sets.{put, rising}
 use Rattle.plane_model.specs.PlaneMap.{signed_edges, smallest}
 use Rattle.plane_model.specs.Faces.{reached_through}
 use Rattle.plane_model.specs.Regions.{upward}
-use Rattle.pemb_file.specs.Layout.{words_of, sections, section_words, total_words, file_words, words_before, section, section_from, part, bits_at, fields_at}
-use Rattle.pemb_file.specs.Contents.{contents_of, contents_with}
+use Rattle.file_laws.specs.Layout.{words_of, sections, section_words, total_words, file_words, words_before, section, section_from, part, bits_at, fields_at}
+use Rattle.file_laws.specs.Contents.{contents_of, contents_with}
 use Rattle.region_tree.specs.Nesting.{parent_number}
-use Rattle.pemb_file.specs.MapOfFile.{signed_at, node_at, face_at, forward_position}
-use Rattle.pemb_file.specs.Faults.{front_fault, count_fault, digest_fault, directories_fault, all_names_fault, place_fault, order_fault, isolated_fault, places_fault, start_fault, member_fault, regions_fault, padding_from, padding_fault}
-use Rattle.pemb_file.specs.Lawful.{content_fault, map_of_file, first_fault, is_whole, has_sizes}
+use Rattle.file_laws.specs.MapOfFile.{signed_at, node_at, face_at, forward_position}
+use Rattle.file_laws.specs.Faults.{front_fault, count_fault, digest_fault, directories_fault, all_names_fault, place_fault, order_fault, isolated_fault, places_fault, start_fault, member_fault, regions_fault, padding_from, padding_fault}
+use Rattle.file_laws.specs.Lawful.{content_fault, map_of_file, first_fault, is_whole, has_sizes}
 use Rattle.code_laws.specs.Tour.{picked, code_of}
-use Rattle.pemb_file.specs.Worked.{tri_contents, plain_contents}
+use Rattle.file_laws.specs.Worked.{tri_contents, plain_contents}
 
 pub tri_made : contents_with (code_of (true ∷ true ∷ false ∷ true ∷ true ∷ false ∷ []) (true ∷ true ∷ true ∷ false ∷ false ∷ false ∷ []) (0 ∷ 6 ∷ [])) (false ∷ false ∷ false ∷ []) (2 ∷ 1 ∷ 3 ∷ []) (1 ∷ 3 ∷ 2 ∷ []) (1 ∷ []) [] (0 ∷ []) (0 ∷ []) ([]) [] (0 ∷ 0 ∷ []) ≡ tri_contents
 unfolding picked rank select excess tabulate is_set word_bits bit_of bits_in stream field_at fields_in words_in first_wrong counts_of span_at size_at start_at least total_of least_of node levels nodes_of sizes_from tree_size close_of open_of mate_of pair_number falling innermost balance_fault is_first mate component_of after before edge_of pair_round node_of ring_of first_of_edge first_of_node first_of_shell first_some seq_fault number_of name_fault is_names is_whole has_sizes put rising words_of sections section_words total_words file_words words_before section section_from part bits_at fields_at contents_of signed_at node_at face_at forward_position parent_number front_fault count_fault directories_fault all_names_fault place_fault order_fault isolated_fault places_fault start_fault member_fault regions_fault padding_from padding_fault content_fault map_of_file first_fault digest_fault first_words schedule rounds compress hash_after digest_bytes sha256 signed_edges walks.until_return sets.grown_by reached_through upward smallest

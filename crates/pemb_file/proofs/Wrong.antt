@@ -5,7 +5,7 @@ use Rattle.bit_words.specs.WrongEntry.{IsFirstWrong, first_wrong}
 use Rattle.bit_words.specs.declared.wrong_entry.WrongEntry.{WrongEntry}
 use Rattle.bit_words.proofs.FirstWrong.{first_wrong-is, first_wrong-none}
 use Rattle.parens.specs.Matching.{is_balanced, balance_fault}
-use Rattle.pemb_file.proofs.Lengths.{none-is_none}
+use Rattle.file_laws.proofs.Lengths.{none-is_none}
 use Rattle.pemb_file.specs.Checked.{Finds}
 
 wrong-found : {S : Type 0} (r : Result S WrongEntry) (want found : List ℕ) → MatchResult r (λ _. found ≡ want) (IsFirstWrong want found) → Finds (first_wrong want found) r

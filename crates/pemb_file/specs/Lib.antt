@@ -1,16 +1,9 @@
-pub mod Layout
-pub mod Contents
-pub mod MapOfFile
-pub mod Faults
-pub mod Lawful
-pub mod Agreement
+pub mod Parts
 pub mod Served
-pub mod Worked
 pub mod Header
 pub mod Checked
 pub mod Kinds
 pub mod Parens
 pub mod PlacedFits
 pub mod PlacedView
-pub mod Image
 pub mod Written

@@ -3,7 +3,7 @@ use Rattle.std.specs.Prelude.{[]}
 use Rattle.bit_words.specs.BitView.{bits_of}
 use Rattle.bit_words.specs.PackedView.{fields_of}
 use Rattle.turan_code.specs.TuranView.{code_of_view}
-use Rattle.pemb_file.specs.Contents.{Contents, contents_with}
+use Rattle.file_laws.specs.Contents.{Contents, contents_with}
 use Rattle.pemb_file.specs.declared.places.Placed.{Placed}
 
 -- the contents of these views, without regions

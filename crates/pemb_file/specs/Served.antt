@@ -5,11 +5,9 @@ use Rattle.bit_words.specs.PackedView.{fields_of}
 use Rattle.parens.specs.ParenView.{parens_of}
 use Rattle.turan_code.specs.TuranView.{code_of_view}
 use Rattle.id_names.specs.NamesView.{ids_of}
-use Rattle.pemb_file.specs.Contents.{Contents, component_count, contents_with}
+use Rattle.file_laws.specs.Contents.{Contents, component_count, contents_with}
 use Rattle.code_laws.specs.Numbers.{tree_edges}
 use Rattle.region_tree.specs.RegionView.{Regions}
-use Rattle.plane_model.specs.PlaneMap.{PlaneMap}
-use Rattle.plane_model.specs.Component.{components}
 use Rattle.pemb_file.specs.declared.counts.Counts.{Counts}
 use Rattle.pemb_file.specs.declared.served.Served.{Served}
 
@@ -32,11 +30,3 @@ pub record AreCounts (c : Contents) (counts : Counts) : Type 0 where
   pub components : counts.components ≡ component_count c
   pub isolated : counts.isolated ≡ length c.isolated
   pub regions : counts.regions ≡ length c.regions
-
--- a map has as many of each as these contents
-pub record HasCounts (c : Contents) (m : PlaneMap) : Type 0 where
-  pub nodes : length m.nodes.keys ≡ length c.nodes
-  pub edges : length m.edges.keys ≡ length c.edges
-  pub faces : length m.faces ≡ length c.faces
-  pub components : length (components m) ≡ component_count c
-  pub regions : length m.regions.keys ≡ length c.regions

@@ -2,8 +2,8 @@
 use Rattle.std.specs.Prelude.{ℕ, ◌≡◌, ◌<◌, ◌^◌, None, List, [], ◌∷◌, ◌++◌, flat_map, slice_index}
 use Rattle.std.specs.Bool.{⊤}
 use Rattle.id_names.specs.Names.{name_fault}
-use Rattle.pemb_file.specs.Contents.{Contents}
-use Rattle.pemb_file.specs.Image.{Filled, words_of_filled, bytes_of, order_of}
+use Rattle.file_laws.specs.Contents.{Contents}
+use Rattle.file_laws.specs.Image.{Filled, words_of_filled, bytes_of, order_of}
 
 -- each number of a section has its width
 abbrev pub AllFit : List Filled → Type 0

@@ -4,15 +4,15 @@ ghost use Rattle.std.specs.Prelude.{◌≡◌, ◌≤◌, ◌+◌, ◌%◌, ◌=
 ghost use Rattle.bit_words.specs.WordView.{words_of as view_words};
 ghost use Rattle.sha2.specs.Sha256.{sha256};
 ghost use Rattle.plane_model.specs.Sets.{or_else};
-ghost use Rattle.pemb_file.specs.Layout.{words_of, counts_in, file_words, header_words};
+ghost use Rattle.file_laws.specs.Layout.{words_of, counts_in, file_words, header_words};
 ghost use Rattle.pemb_file.specs.Header.{counts_of_header};
-ghost use Rattle.pemb_file.specs.Faults.{unless, magic, front_fault, digest_fault, count_fault};
+ghost use Rattle.file_laws.specs.Faults.{unless, magic, front_fault, digest_fault, count_fault};
 ghost use Rattle.pemb_file.specs.Checked.{Finds};
 
-use crate::fault::FileFault;
 use crate::image::Image;
 use crate::layout::Header;
 use bit_words::{Steps, WordView};
+use file_laws::FileFault;
 use sha2::{Digest, Sha256};
 use std::sync::ledger::Ledger;
 

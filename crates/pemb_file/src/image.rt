@@ -4,13 +4,13 @@ ghost use Rattle.std.specs.Prelude.{◌≡◌, ℕ, length, Option, None, option
 ghost use Rattle.bit_words.specs.declared.wrong_entry.WrongEntry.{WrongEntry};
 ghost use Rattle.pemb_file.specs.Checked.{Finds};
 ghost use Rattle.bit_words.specs.WordView.{words_of};
-ghost use Rattle.pemb_file.specs.Layout.{counts_in, file_words};
+ghost use Rattle.file_laws.specs.Layout.{counts_in, file_words};
 ghost use Rattle.pemb_file.specs.Header.{counts_of_header};
-ghost use Rattle.pemb_file.specs.Faults.{count_fault};
+ghost use Rattle.file_laws.specs.Faults.{count_fault};
 
-use crate::fault::FileFault;
 use crate::layout::{Header, width};
 use bit_words::{BitView, PackedView, Steps, WordView, WrongEntry};
+use file_laws::FileFault;
 use parens::check_balanced;
 use std::sync::ledger::Ledger;
 
@@ -33,9 +33,9 @@ impl<'a> Image<'a> {
     ghost use Rattle.rank_select.specs.Counts.{counts_of};
     ghost use Rattle.min_max_tree.specs.Tree.{nodes_of};
     ghost use Rattle.code_laws.specs.SeqFault.{seq_fault, is_sound};
-    ghost use Rattle.pemb_file.specs.Layout.{counts_in, section, section_from, section_words, section_bits, part, bits_at, fields_at, face_count, node_count};
-    ghost use Rattle.pemb_file.specs.Contents.{contents_of};
-    ghost use Rattle.pemb_file.specs.Faults.{names_fault, directories_fault, all_names_fault, member_fault, regions_fault, is_padded, padding_fault};
+    ghost use Rattle.file_laws.specs.Layout.{counts_in, section, section_from, section_words, section_bits, part, bits_at, fields_at, face_count, node_count};
+    ghost use Rattle.file_laws.specs.Contents.{contents_of};
+    ghost use Rattle.file_laws.specs.Faults.{names_fault, directories_fault, all_names_fault, member_fault, regions_fault, is_padded, padding_fault};
     ghost use Rattle.pemb_file.specs.Checked.{Finds};
     ghost use Rattle.pemb_file.specs.Kinds.{has_bits, has_fields, is_directory, is_tree, is_named};
 

@@ -3,7 +3,7 @@
 ghost use Rattle.std.specs.Prelude.{◌≡◌, ◌<◌, ◌≤◌, ◌+◌, ◌*◌, ◌/◌, ◌^◌, ℕ};
 ghost use Rattle.rank_select.specs.Counts.{blocks};
 ghost use Rattle.min_max_tree.specs.Tree.{tree_size};
-ghost use Rattle.pemb_file.specs.Layout.{HeaderCounts, section};
+ghost use Rattle.file_laws.specs.Layout.{HeaderCounts, section};
 
 /// The counts in a file's header, which may be any numbers.
 #[derive(Clone, Copy)]
@@ -71,7 +71,7 @@ pub(crate) fn width(number: u64) -> u32
 
 impl Header {
     ghost use Rattle.std.specs.Prelude.{◌≡◌, ◌<◌, ◌≤◌, ◌+◌, ◌*◌, ◌/◌, ◌^◌, map};
-    ghost use Rattle.pemb_file.specs.Layout.{section, sections, section_words, section_from, file_words, face_count, node_count};
+    ghost use Rattle.file_laws.specs.Layout.{section, sections, section_words, section_from, file_words, face_count, node_count};
     ghost use Rattle.pemb_file.specs.Header.{counts_of_header, AreSmall};
 
     /// How many faces there are without face 0.

@@ -6,12 +6,12 @@ ghost use Rattle.pemb_file.specs.Checked.{Finds};
 ghost use Rattle.bit_words.specs.BitView.{bits_of};
 ghost use Rattle.bit_words.specs.PackedView.{fields_of};
 ghost use Rattle.turan_code.specs.TuranView.{code_of_view};
-ghost use Rattle.pemb_file.specs.Contents.{contents_with};
+ghost use Rattle.file_laws.specs.Contents.{contents_with};
 ghost use Rattle.pemb_file.specs.PlacedFits.{PlacedFits};
 
-use crate::fault::FileFault;
 use bit_words::{BitView, PackedView, Steps};
 use code_laws::RingNumber;
+use file_laws::FileFault;
 use std::sync::ledger::Ledger;
 use turan_code::TuranView;
 
@@ -35,8 +35,8 @@ impl<'a> Placed<'a> {
     ghost use Rattle.code_laws.specs.Code.{start_of, end_of, component_count as components_of_code};
     ghost use Rattle.code_laws.specs.Numbers.{ring_of, is_outer};
     ghost use Rattle.topo_base.specs.SignedEdge.{comes_before};
-    ghost use Rattle.pemb_file.specs.MapOfFile.{signed_at};
-    ghost use Rattle.pemb_file.specs.Faults.{is_place, begins_before, place_fault, precedes, is_ordered, order_fault, isolated_id, is_isolated, isolated_fault, places_fault, is_smallest, start_fault};
+    ghost use Rattle.file_laws.specs.MapOfFile.{signed_at};
+    ghost use Rattle.file_laws.specs.Faults.{is_place, begins_before, place_fault, precedes, is_ordered, order_fault, isolated_id, is_isolated, isolated_fault, places_fault, is_smallest, start_fault};
     ghost use Rattle.pemb_file.specs.Checked.{Finds};
     ghost use Rattle.pemb_file.specs.PlacedView.{contents_of_placed};
 

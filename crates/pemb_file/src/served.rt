@@ -6,8 +6,8 @@ ghost use Rattle.bit_words.specs.PackedView.{fields_of};
 ghost use Rattle.parens.specs.ParenView.{parens_of};
 ghost use Rattle.turan_code.specs.TuranView.{code_of_view};
 ghost use Rattle.id_names.specs.NamesView.{ids_of};
-ghost use Rattle.pemb_file.specs.Contents.{contents_with};
-ghost use Rattle.pemb_file.specs.Lawful.{is_whole};
+ghost use Rattle.file_laws.specs.Contents.{contents_with};
+ghost use Rattle.file_laws.specs.Lawful.{is_whole};
 
 use crate::counts::Counts;
 use bit_words::{BitView, PackedView, Steps};
@@ -42,8 +42,8 @@ impl<'a> Served<'a> {
     ghost use Rattle.bit_words.specs.BitView.{bits_of};
     ghost use Rattle.bit_words.specs.PackedView.{fields_of};
     ghost use Rattle.parens.specs.ParenView.{parens_of};
-    ghost use Rattle.pemb_file.specs.Contents.{contents_with};
-    ghost use Rattle.pemb_file.specs.Lawful.{is_whole};
+    ghost use Rattle.file_laws.specs.Contents.{contents_with};
+    ghost use Rattle.file_laws.specs.Lawful.{is_whole};
     ghost use Rattle.region_tree.specs.RegionView.{regions_of};
     ghost use Rattle.pemb_file.specs.Served.{contents_of_view, regions_in, AreCounts};
 

@@ -1,9 +1,11 @@
 //! Worked files, written, opened and damaged.
 
 ghost use Rattle.std.specs.Prelude.{◌≡◌, ◌<◌, length, IfOk, IsTrue};
-ghost use Rattle.pemb_file.specs.Contents.{contents_of_parts};
-ghost use Rattle.pemb_file.specs.Lawful.{is_whole};
-ghost use Rattle.pemb_file.specs.Worked.{tri_contents, plain_contents};
+ghost use Rattle.pemb_file.specs.Parts.{contents_of_parts};
+ghost use Rattle.file_laws.specs.Lawful.{is_whole};
+ghost use Rattle.file_laws.specs.Worked.{tri_contents, plain_contents};
+
+mod damaged;
 
 use crate::{Counts, FileFault, ImageParts, Served, open, write_image};
 use bit_words::Steps;

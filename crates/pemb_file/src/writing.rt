@@ -6,12 +6,13 @@ ghost use Rattle.bit_words.specs.Packed.{PackedList};
 ghost use Rattle.id_names.specs.Names.{AreDistinctIds, name_fault};
 ghost use Rattle.code_laws.specs.Tour.{code_of};
 ghost use Rattle.turan_code.specs.CodeWords.{AreWordsOf};
-ghost use Rattle.pemb_file.specs.Layout.{words_of, file_words};
+ghost use Rattle.file_laws.specs.Layout.{words_of, file_words};
 ghost use Rattle.pemb_file.specs.Header.{counts_of_header};
-ghost use Rattle.pemb_file.specs.Contents.{contents_of, contents_of_parts};
-ghost use Rattle.pemb_file.specs.Lawful.{is_lawful, is_whole};
-ghost use Rattle.pemb_file.specs.Faults.{magic};
-ghost use Rattle.pemb_file.specs.Image.{bytes_of, order_of, with_bits, with_fields, with_tree, with_names, code_sections, filled, counts_of_contents, counts_words, image_of};
+ghost use Rattle.file_laws.specs.Contents.{contents_of};
+ghost use Rattle.pemb_file.specs.Parts.{contents_of_parts};
+ghost use Rattle.file_laws.specs.Lawful.{is_lawful, is_whole};
+ghost use Rattle.file_laws.specs.Faults.{magic};
+ghost use Rattle.file_laws.specs.Image.{bytes_of, order_of, with_bits, with_fields, with_tree, with_names, code_sections, filled, counts_of_contents, counts_words, image_of};
 ghost use Rattle.pemb_file.specs.Written.{Written, AreOrdered};
 
 use crate::header::{MAGIC, digest_of};

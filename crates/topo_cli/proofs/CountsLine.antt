@@ -4,8 +4,9 @@ use Rattle.std.proofs.Common.{◌≡◌, List, [], ◌∷◌, ◌++◌, ℕ, len
 use Rattle.topo_base.specs.Script.{Item, item_text}
 use Rattle.plane_model.specs.PlaneMap.{PlaneMap}
 use Rattle.plane_model.specs.Component.{components}
-use Rattle.pemb_file.specs.Contents.{Contents}
-use Rattle.pemb_file.specs.Served.{AreCounts, HasCounts}
+use Rattle.file_laws.specs.Contents.{Contents}
+use Rattle.pemb_file.specs.Served.{AreCounts}
+use Rattle.file_laws.specs.Counted.{HasCounts}
 use Rattle.pemb_file.specs.declared.counts.Counts.{Counts}
 use Rattle.topo_cli.specs.Text.{counts_line, five}
 

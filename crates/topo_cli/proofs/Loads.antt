@@ -26,8 +26,8 @@ use Rattle.map_build.specs.BuildFaults.{Names as NamesFault}
 use Rattle.map_build.specs.declared.fault.BuildFault.{BuildFault}
 use Rattle.map_build.specs.declared.fault.BuildFault.TheVariants as build
 use Rattle.topo_cli.specs.Outcome.{IsImageOf}
-use Rattle.pemb_file.specs.Lawful.{first_fault as file_fault, map_of_file}
-use Rattle.pemb_file.specs.declared.fault.FileFault.{FileFault}
+use Rattle.file_laws.specs.Lawful.{first_fault as file_fault, map_of_file}
+use Rattle.file_laws.specs.declared.fault.FileFault.{FileFault}
 use Rattle.topo_cli.specs.declared.load.LoadFault.{LoadFault}
 use Rattle.topo_cli.specs.declared.load.LoadFault.TheVariants as fault
 

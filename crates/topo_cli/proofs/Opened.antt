@@ -3,9 +3,9 @@ use Rattle.std.proofs.Common.{◌≡◌, ◌∙◌, ℕ, ◌+◌, ◌*◌, ◌�
 use Rattle.bit_words.specs.Digits.{digits}
 use Rattle.plane_model.specs.PlaneMap.{PlaneMap, map_of}
 use Rattle.plane_model.specs.Consistent.{is_consistent, size}
-use Rattle.pemb_file.specs.Layout.{counts_in, words_of}
-use Rattle.pemb_file.specs.Contents.{Contents, contents_of}
-use Rattle.pemb_file.specs.Lawful.{file_size, first_fault, is_lawful, map_of_file}
+use Rattle.file_laws.specs.Layout.{counts_in, words_of}
+use Rattle.file_laws.specs.Contents.{Contents, contents_of}
+use Rattle.file_laws.specs.Lawful.{file_size, first_fault, is_lawful, map_of_file}
 use Rattle.navigate.specs.Bound.{map_with}
 use Rattle.topo_cli.specs.Outcome.{words_to_open}
 

@@ -7,8 +7,8 @@ use Rattle.ports.specs.Outside.{Files, IsReadToEnd, WhereTold}
 use Rattle.plane_model.specs.Rows.{Rows}
 use Rattle.plane_model.specs.PlaneMap.{PlaneMap, map_of}
 use Rattle.plane_model.specs.Answers.{answers}
-use Rattle.pemb_file.specs.Lawful.{first_fault as file_fault, map_of_file}
-use Rattle.pemb_file.specs.declared.fault.FileFault.{FileFault}
+use Rattle.file_laws.specs.Lawful.{first_fault as file_fault, map_of_file}
+use Rattle.file_laws.specs.declared.fault.FileFault.{FileFault}
 use Rattle.topo_cli.specs.declared.status.Status.TheVariants as status
 use Rattle.topo_cli.specs.Limits.{most_bytes}
 use Rattle.topo_cli.specs.Call.{Call}

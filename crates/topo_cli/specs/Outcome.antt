@@ -9,12 +9,12 @@ use Rattle.plane_model.specs.Rows.{Rows}
 use Rattle.plane_model.specs.PlaneMap.{PlaneMap, map_of}
 use Rattle.plane_model.specs.Consistent.{is_consistent, size}
 use Rattle.plane_model.specs.Answers.{answers}
-use Rattle.pemb_file.specs.Image.{image_of}
-use Rattle.pemb_file.specs.Lawful.{StandsFor, is_lawful}
+use Rattle.file_laws.specs.Image.{image_of}
+use Rattle.file_laws.specs.Lawful.{StandsFor, is_lawful}
 use Rattle.map_build.specs.Made.{contents_of_map}
 use Rattle.map_totals.specs.Totals.{adjacent_total, face_total, most_total_words, node_total}
 use Rattle.topo_serve.specs.Serving.{ended_answers, found_by_reads, over_lines, words_of_line}
-use Rattle.pemb_file.specs.declared.fault.FileFault.{FileFault}
+use Rattle.file_laws.specs.declared.fault.FileFault.{FileFault}
 use Rattle.topo_cli.specs.declared.status.Status.{Status}
 use Rattle.topo_cli.specs.declared.status.Status.TheVariants as status
 use Rattle.topo_cli.specs.Limits.{most_bytes}

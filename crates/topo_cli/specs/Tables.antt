@@ -7,8 +7,8 @@ use Rattle.plane_model.specs.Reading.{node_rows, edge_rows, face_rows, region_ro
 use Rattle.plane_model.specs.Faults.{first_fault}
 use Rattle.map_maker.specs.Grid.{grid_of}
 use Rattle.topo_cli.specs.Limits.{most_bytes}
-use Rattle.pemb_file.specs.Lawful.{first_fault as file_fault, map_of_file}
-use Rattle.pemb_file.specs.declared.fault.FileFault.{FileFault}
+use Rattle.file_laws.specs.Lawful.{first_fault as file_fault, map_of_file}
+use Rattle.file_laws.specs.declared.fault.FileFault.{FileFault}
 use Rattle.topo_cli.specs.Words.{Form, node_table, edge_table, face_table, region_table, member_table}
 
 -- why there are no tables

@@ -13,8 +13,8 @@ use Rattle.topo_base.specs.Script.{Query}
 use Rattle.code_laws.specs.declared.seq_fault.SeqFault.{SeqFault}
 use Rattle.code_laws.specs.declared.seq_fault.SeqFault.TheVariants as seq
 use Rattle.pemb_file.specs.declared.counts.Counts.{Counts}
-use Rattle.pemb_file.specs.declared.fault.FileFault.{FileFault}
-use Rattle.pemb_file.specs.declared.fault.FileFault.TheVariants as file
+use Rattle.file_laws.specs.declared.fault.FileFault.{FileFault}
+use Rattle.file_laws.specs.declared.fault.FileFault.TheVariants as file
 use Rattle.map_totals.specs.Totals.{adjacent_total, face_total, node_total}
 use Rattle.topo_cli.specs.Tables.{Ending}
 

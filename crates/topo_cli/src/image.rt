@@ -3,7 +3,7 @@
 ghost use Rattle.std.specs.Prelude.{◌≡◌, ◌≤◌, ◌<◌, ◌+◌, ◌*◌, IfOk, IsTrue, length};
 ghost use Rattle.scratch_region.specs.Marks.{IsEmpty, room_of};
 ghost use Rattle.plane_model.specs.PlaneMap.{map_of};
-ghost use Rattle.pemb_file.specs.Lawful.{is_lawful, map_of_file};
+ghost use Rattle.file_laws.specs.Lawful.{is_lawful, map_of_file};
 ghost use Rattle.pemb_file.specs.Served.{contents_of_view};
 ghost use Rattle.navigate.specs.Bound.{served_map};
 ghost use Rattle.topo_cli.specs.Outcome.{words_to_open};

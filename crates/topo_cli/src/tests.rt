@@ -2,6 +2,8 @@
 
 ghost use Rattle.std.specs.Prelude.{◌≡◌, ◌<◌, ◌≤◌};
 
+mod long_cycle;
+
 use crate::{Status, run};
 use bit_words::Steps;
 use ports::{

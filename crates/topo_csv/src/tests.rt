@@ -1,3 +1,5 @@
+mod cut_tables;
+
 use crate::{CsvFault, read_edges, read_faces, read_members, read_nodes, read_regions};
 use plane_model::{EdgeRow, FaceRow, MemberRow, NodeRow, RegionRow};
 use std::test::Fail;

@@ -6,8 +6,9 @@ use Rattle.topo_base.specs.Script.{Item, item_text}
 use Rattle.plane_model.specs.PlaneMap.{PlaneMap}
 use Rattle.plane_model.specs.Component.{components}
 use Rattle.plane_model.specs.Answers.{items, after_colon}
-use Rattle.pemb_file.specs.Contents.{Contents}
-use Rattle.pemb_file.specs.Served.{AreCounts, HasCounts}
+use Rattle.file_laws.specs.Contents.{Contents}
+use Rattle.pemb_file.specs.Served.{AreCounts}
+use Rattle.file_laws.specs.Counted.{HasCounts}
 use Rattle.pemb_file.specs.declared.counts.Counts.{Counts}
 
 same_counts : (c : Contents) (counts : Counts) (m : PlaneMap) → AreCounts c counts → HasCounts c m

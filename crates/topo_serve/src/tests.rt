@@ -2,6 +2,9 @@
 
 ghost use Rattle.std.specs.Prelude.{◌≡◌, ◌<◌};
 
+mod damaged_files;
+mod hostile_scripts;
+
 use crate::{ServeFault, serve};
 use bit_words::Steps;
 use pemb_file::open;

@@ -2,8 +2,8 @@ use Rattle.std.proofs.Common.{subst, sym, ap, ◌∙◌}
 use Rattle.plane_model.specs.Rows.{rows_of}
 use Rattle.plane_model.specs.PlaneMap.{Same}
 use Rattle.plane_model.proofs.AllFaults.{none-first_fault}
-use Rattle.pemb_file.specs.Lawful.{is_whole, map_of_file}
-use Rattle.pemb_file.specs.MapOfFile.{rows_of_contents}
+use Rattle.file_laws.specs.Lawful.{is_whole, map_of_file}
+use Rattle.file_laws.specs.MapOfFile.{rows_of_contents}
 use Rattle.map_build.proofs.OfMap.{map_whole, map_stands}
 use Rattle.map_build.proofs.building.build.Goals as goal
 

@@ -1,6 +1,6 @@
 use Rattle.std.proofs.Common.{ap}
 use Rattle.plane_model.specs.PlaneMap.{PlaneMap}
-use Rattle.pemb_file.specs.Image.{image_of}
+use Rattle.file_laws.specs.Image.{image_of}
 use Rattle.map_build.specs.Made.{contents_of_map}
 use Rattle.map_build.proofs.laws.one_image.Goals as goal
 

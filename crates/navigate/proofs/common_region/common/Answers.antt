@@ -1,7 +1,7 @@
 use Rattle.std.proofs.Common.{arith, ap, ◌∙◌, length}
 use Rattle.std.specs.Prelude.{option_to_list}
 use Rattle.plane_model.specs.Regions.{common as common_region}
-use Rattle.pemb_file.specs.MapOfFile.{face_at_place}
+use Rattle.file_laws.specs.MapOfFile.{face_at_place}
 use Rattle.pemb_file.specs.Served.{contents_of_view}
 use Rattle.navigate.specs.Bound.{map_with}
 use Rattle.navigate.proofs.Facts.{words_line}

@@ -1,7 +1,7 @@
 use Rattle.std.proofs.Common.{arith, ◌∙◌, ap, subst, ◌<◌, ℕ, length}
 use Rattle.topo_base.specs.SignedEdge.{reverse}
 use Rattle.code_laws.specs.Code.{mate}
-use Rattle.pemb_file.specs.MapOfFile.{face_at}
+use Rattle.file_laws.specs.MapOfFile.{face_at}
 use Rattle.pemb_file.specs.Served.{contents_of_view}
 use Rattle.navigate.proofs.Facts.{words_line}
 use Rattle.navigate.proofs.MapLists.{side_at, reversed_at}

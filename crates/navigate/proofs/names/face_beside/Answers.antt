@@ -1,6 +1,6 @@
 use Rattle.std.proofs.Common.{ap, ◌∙◌}
 use Rattle.pemb_file.specs.Served.{contents_of_view}
-use Rattle.pemb_file.specs.MapOfFile.{face_at, face_at_place}
+use Rattle.file_laws.specs.MapOfFile.{face_at, face_at_place}
 use Rattle.navigate.proofs.names.face_beside.Goals as goal
 
 pub returns-clause-face : goal.returns-clause-face

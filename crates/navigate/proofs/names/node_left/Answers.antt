@@ -4,8 +4,8 @@ use Rattle.turan_code.specs.TuranView.{code_of_view}
 use Rattle.code_laws.specs.Code.{Code}
 use Rattle.code_laws.specs.Numbers.{node_of}
 use Rattle.pemb_file.specs.Served.{contents_of_view}
-use Rattle.pemb_file.specs.MapOfFile.{node_at}
-use Rattle.pemb_file.proofs.Fits.{node_in}
+use Rattle.file_laws.specs.MapOfFile.{node_at}
+use Rattle.file_laws.proofs.Fits.{node_in}
 use Rattle.navigate.proofs.Facts.{w, digits_view}
 use Rattle.navigate.proofs.names.node_left.Goals as goal
 

@@ -4,7 +4,7 @@ use Rattle.turan_code.specs.TuranView.{code_of_view}
 use Rattle.code_laws.specs.Code.{Code, component_of}
 use Rattle.code_laws.specs.Numbers.{node_of, node_count}
 use Rattle.pemb_file.specs.Served.{contents_of_view}
-use Rattle.pemb_file.specs.MapOfFile.{joined_count}
+use Rattle.file_laws.specs.MapOfFile.{joined_count}
 use Rattle.navigate.proofs.Facts.{w, digits_view}
 use Rattle.navigate.proofs.Rings.{outer_place}
 use Rattle.navigate.proofs.MapLists.{joined}

@@ -2,7 +2,7 @@ use Rattle.std.proofs.Common.{arith, ◌+◌, ◌-◌, ◌/◌, ◌≡◌, ◌�
 use Rattle.std.specs.Prelude.{slice_index}
 use Rattle.std.proofs.Common.{length}
 use Rattle.bit_words.specs.Digits.{digits}
-use Rattle.pemb_file.specs.Contents.{component_count}
+use Rattle.file_laws.specs.Contents.{component_count}
 use Rattle.pemb_file.specs.Served.{contents_of_view}
 use Rattle.navigate.specs.Holes.{place_at}
 use Rattle.navigate.proofs.Facts.{digits_components}

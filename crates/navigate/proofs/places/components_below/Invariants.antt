@@ -1,6 +1,6 @@
 use Rattle.std.proofs.Common.{◌<◌, ◌≤◌, ◌+◌, ◌-◌, ◌*◌, ℕ, length}
 use Rattle.bit_words.specs.Digits.{digits}
-use Rattle.pemb_file.specs.Contents.{component_count}
+use Rattle.file_laws.specs.Contents.{component_count}
 use Rattle.pemb_file.specs.Served.{contents_of_view}
 use Rattle.navigate.specs.Holes.{place_at}
 use Rattle.navigate.proofs.places.components_below.Given as goal

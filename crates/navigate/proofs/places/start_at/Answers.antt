@@ -2,7 +2,7 @@ use Rattle.std.proofs.Common.{arith, ap, sym, subst, refl, ℕ, Option}
 use Rattle.std.specs.Prelude.{IsNone}
 use Rattle.code_laws.specs.Code.{Code, component_count}
 use Rattle.pemb_file.specs.Served.{contents_of_view}
-use Rattle.pemb_file.proofs.Fits.{components_same}
+use Rattle.file_laws.proofs.Fits.{components_same}
 use Rattle.navigate.proofs.Facts.{w}
 use Rattle.navigate.proofs.PlaceLaws.{component_at}
 use Rattle.navigate.proofs.places.start_at.Goals as goal

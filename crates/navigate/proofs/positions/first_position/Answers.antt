@@ -4,7 +4,7 @@ use mathlib.Core.Bool.{beq}
 use Rattle.bit_words.specs.Digits.{digits}
 use Rattle.turan_code.specs.TuranView.{code_of_view}
 use Rattle.id_names.specs.NamesView.{ids_of}
-use Rattle.pemb_file.specs.MapOfFile.{signed_at}
+use Rattle.file_laws.specs.MapOfFile.{signed_at}
 use Rattle.code_laws.specs.Code.{mate}
 use Rattle.pemb_file.specs.Served.{contents_of_view}
 use Rattle.navigate.proofs.Facts.{digits_view, digits_edges, forward_many, edge_known, edge_missing, first_edge}

@@ -3,7 +3,7 @@ use Rattle.std.specs.Prelude.{slice_index, IsNone}
 use Rattle.turan_code.specs.TuranView.{code_of_view}
 use Rattle.code_laws.specs.Code.{Code}
 use Rattle.code_laws.specs.Numbers.{node_count}
-use Rattle.pemb_file.specs.MapOfFile.{node_at}
+use Rattle.file_laws.specs.MapOfFile.{node_at}
 use Rattle.pemb_file.specs.Served.{contents_of_view}
 use Rattle.navigate.specs.OrbitWalk.{rest, price, contents_in}
 use Rattle.navigate.proofs.Facts.{words_line, digits_view}

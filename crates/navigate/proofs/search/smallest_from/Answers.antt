@@ -6,7 +6,7 @@ use Rattle.navigate.specs.Least.{least}
 use Rattle.navigate.specs.OrbitWalk.{price}
 use Rattle.navigate.proofs.Walking.{walk-head}
 use Rattle.navigate.proofs.Resting.{passed, passed_some}
-use Rattle.pemb_file.specs.Contents.{Contents}
+use Rattle.file_laws.specs.Contents.{Contents}
 use Rattle.navigate.specs.Bound.{line_digits}
 use Rattle.pemb_file.specs.Served.{contents_of_view}
 use Rattle.navigate.specs.OrbitWalk.{contents_in, positions_left}

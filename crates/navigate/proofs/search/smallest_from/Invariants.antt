@@ -1,6 +1,6 @@
 use Rattle.std.proofs.Common.{◌≡◌, ◌<◌, ◌≤◌, ◌+◌, ◌*◌, length}
 use Rattle.code_laws.specs.Orbits.{orbit}
-use Rattle.pemb_file.specs.MapOfFile.{signed_at}
+use Rattle.file_laws.specs.MapOfFile.{signed_at}
 use Rattle.navigate.specs.Bound.{line_digits}
 use Rattle.navigate.specs.Least.{least, smallest_of}
 use Rattle.pemb_file.specs.Served.{contents_of_view}

@@ -1,6 +1,6 @@
 use Rattle.std.proofs.Common.{arith, sym, ◌∙◌, ap, ◌≡◌, ◌+◌, ◌*◌, [], ◌∷◌}
 use Rattle.std.specs.Prelude.{drop}
-use Rattle.pemb_file.specs.Contents.{Contents}
+use Rattle.file_laws.specs.Contents.{Contents}
 use Rattle.navigate.specs.Bound.{line_digits}
 use Rattle.navigate.specs.Beside.{place_across, unseen}
 use Rattle.navigate.specs.FaceWalk.{contents_in, face_positions}

@@ -2,7 +2,7 @@ use Rattle.std.proofs.Common.{arith, sym, ◌∙◌, ap, subst, ◌≡◌, ◌<�
 use Rattle.std.specs.Prelude.{drop, ◌==◌, ◌||◌}
 use Rattle.scratch_region.specs.Marks.{is_marked}
 use Rattle.plane_model.specs.Sets.{has}
-use Rattle.pemb_file.specs.Contents.{Contents}
+use Rattle.file_laws.specs.Contents.{Contents}
 use Rattle.navigate.specs.Bound.{line_digits}
 use Rattle.navigate.specs.Beside.{place_across, unseen}
 use Rattle.navigate.specs.FaceWalk.{contents_in, face_positions}

@@ -2,8 +2,8 @@ use Rattle.std.proofs.Common.{arith}
 use Rattle.std.proofs.lemmas.Result.{err_from_is_err_and}
 use Rattle.bit_words.specs.WordView.{words_of as view_words}
 use Rattle.pemb_file.proofs.Opened.{names_fit, at-sequence, at-directories, at-names, at-placed, at-regions, at-padding, whole_content}
-use Rattle.pemb_file.specs.Layout.{counts_in}
-use Rattle.pemb_file.proofs.Sections.{counts_fit}
+use Rattle.file_laws.specs.Layout.{counts_in}
+use Rattle.file_laws.proofs.Sections.{counts_fit}
 use Rattle.pemb_file.proofs.opening.content.Goals as goal
 
 pub returns-in_err-check_code-clause-fault : goal.returns-in_err-check_code-clause-fault

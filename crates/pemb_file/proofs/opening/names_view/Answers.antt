@@ -1,6 +1,6 @@
 use Rattle.std.proofs.Common.{arith, sym, ◌∙◌}
 use Rattle.bit_words.specs.WordView.{words_of as view_words}
-use Rattle.pemb_file.specs.Layout.{counts_in}
+use Rattle.file_laws.specs.Layout.{counts_in}
 use Rattle.pemb_file.proofs.KindLaws.{names-few, named-count}
 use Rattle.pemb_file.proofs.opening.names_view.Goals as goal
 

@@ -2,8 +2,8 @@ use Rattle.std.proofs.Common.{◌*◌, ◌+◌, arith, refl, ap}
 use Rattle.std.proofs.lemmas.Result.{err_from_is_err_and}
 use Rattle.bit_words.specs.WordView.{words_of as view_words}
 use Rattle.bit_words.specs.Digits.{digits}
-use Rattle.pemb_file.specs.Layout.{counts_in, words_of}
-use Rattle.pemb_file.specs.Lawful.{file_size}
+use Rattle.file_laws.specs.Layout.{counts_in, words_of}
+use Rattle.file_laws.specs.Lawful.{file_size}
 use Rattle.pemb_file.proofs.Cost.{head_cost, whole_cost}
 use Rattle.pemb_file.proofs.Wrong.{some-finds}
 use Rattle.pemb_file.proofs.Opened.{none-some, begun-some, begun-none}

@@ -1,6 +1,6 @@
 use Rattle.std.proofs.Common.{sym, subst, IsTrue}
-use Rattle.pemb_file.specs.Contents.{Contents}
-use Rattle.pemb_file.specs.Lawful.{is_whole}
+use Rattle.file_laws.specs.Contents.{Contents}
+use Rattle.file_laws.specs.Lawful.{is_whole}
 use Rattle.pemb_file.proofs.WorkedParts.{plain_whole}
 use Rattle.pemb_file.proofs.tests.the_file_of_an_island_is_written_and_opened.Goals as goal
 

@@ -1,5 +1,5 @@
 use Rattle.std.proofs.Common.{◌≡◌, length, arith}
-use Rattle.pemb_file.specs.Contents.{contents_of_parts}
+use Rattle.pemb_file.specs.Parts.{contents_of_parts}
 use Rattle.pemb_file.proofs.MadeCounts.{many, counts_from, few_from}
 use Rattle.pemb_file.proofs.writing.header_of.Goals as goal
 

@@ -1,10 +1,10 @@
 use Rattle.std.specs.Prelude.{[], ◌∷◌}
 use Rattle.std.proofs.Common.{arith, subst, sym}
 use Rattle.id_names.specs.Names.{AreDistinctIds}
-use Rattle.pemb_file.specs.Contents.{contents_of_parts}
-use Rattle.pemb_file.specs.Image.{with_bits, with_fields, with_tree, with_names, filled}
+use Rattle.pemb_file.specs.Parts.{contents_of_parts}
+use Rattle.file_laws.specs.Image.{with_bits, with_fields, with_tree, with_names, filled}
 use Rattle.pemb_file.specs.Written.{Written}
-use Rattle.pemb_file.proofs.Whole.{whole_parts}
+use Rattle.file_laws.proofs.Whole.{whole_parts}
 use Rattle.pemb_file.proofs.MadeCounts.{many, few_seen}
 use Rattle.pemb_file.proofs.Grown.{ok_then, both}
 use Rattle.pemb_file.proofs.writing.push_sections.Goals as goal

@@ -1,5 +1,5 @@
 use Rattle.std.proofs.Common.{◌≡◌, ◌++◌, drop}
-use Rattle.pemb_file.specs.Image.{bytes_of}
+use Rattle.file_laws.specs.Image.{bytes_of}
 use Rattle.pemb_file.proofs.writing.push_words.Given as goal
 
 abbrev pub invariant-loop-word : goal.invariant-loop-word

@@ -1,8 +1,9 @@
 use Rattle.std.proofs.Common.{◌≡◌, List, ℕ, sym, subst, IsTrue}
-use Rattle.pemb_file.specs.Layout.{words_of}
+use Rattle.file_laws.specs.Layout.{words_of}
 use Rattle.pemb_file.specs.Header.{counts_of_header}
-use Rattle.pemb_file.specs.Contents.{contents_of, contents_of_parts}
-use Rattle.pemb_file.specs.Lawful.{is_lawful}
+use Rattle.file_laws.specs.Contents.{contents_of}
+use Rattle.pemb_file.specs.Parts.{contents_of_parts}
+use Rattle.file_laws.specs.Lawful.{is_lawful}
 use Rattle.pemb_file.proofs.MadeImage.{image_lawful, image_contents}
 use Rattle.pemb_file.proofs.MadeBytes.{start_words, long, sealed_is}
 use Rattle.pemb_file.proofs.writing.write_image.Goals as goal

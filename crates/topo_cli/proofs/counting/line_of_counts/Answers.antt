@@ -2,9 +2,9 @@ use Rattle.std.specs.Prelude.{map, flat_map}
 use Rattle.std.proofs.Common.{◌≡◌, List, [], ◌∷◌, ◌++◌, ◌∙◌}
 use Rattle.topo_base.specs.Script.{Item, item_text}
 use Rattle.plane_model.specs.PlaneMap.{map_of}
-use Rattle.pemb_file.specs.MapOfFile.{rows_of_contents}
+use Rattle.file_laws.specs.MapOfFile.{rows_of_contents}
 use Rattle.pemb_file.specs.Served.{contents_of_view}
-use Rattle.pemb_file.proofs.FiveCounts.{counts_of_map}
+use Rattle.file_laws.proofs.FiveCounts.{counts_of_map}
 use Rattle.topo_cli.specs.Text.{counts_line, five}
 use Rattle.topo_cli.proofs.CountsLine.{shown_counts, if_ok_more}
 use Rattle.topo_cli.proofs.counting.line_of_counts.Goals as goal

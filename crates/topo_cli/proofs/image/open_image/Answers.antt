@@ -1,4 +1,4 @@
-use Rattle.pemb_file.proofs.Sizes.{lawful_size}
+use Rattle.file_laws.proofs.Sizes.{lawful_size}
 use Rattle.topo_cli.proofs.Opened.{cost_is, map_is}
 use Rattle.topo_cli.proofs.image.open_image.Goals as goal
 

@@ -1,6 +1,6 @@
 use Rattle.std.proofs.Common.{◌≡◌, ◌∙◌, ◌+◌, ◌≤◌, ap, subst, List, ℕ, refl, arith}
 use Rattle.plane_model.specs.PlaneMap.{PlaneMap, map_of}
-use Rattle.pemb_file.specs.Lawful.{map_of_file}
+use Rattle.file_laws.specs.Lawful.{map_of_file}
 use Rattle.topo_cli.specs.Words.{Form}
 use Rattle.topo_cli.specs.Outcome.{words_to_open}
 use Rattle.topo_cli.proofs.Built.{fits_ask}

@@ -1,6 +1,6 @@
 use Rattle.std.proofs.Common.{◌≡◌, ◌∙◌, ◌+◌, ◌≤◌, ap, sym, subst, refl, List, ℕ, arith, codes}
 use Rattle.plane_model.specs.PlaneMap.{PlaneMap, map_of}
-use Rattle.pemb_file.specs.Lawful.{map_of_file}
+use Rattle.file_laws.specs.Lawful.{map_of_file}
 use Rattle.topo_cli.specs.declared.status.Status.TheVariants as status
 use Rattle.topo_cli.specs.Call.{sink_call}
 use Rattle.topo_cli.specs.Ended.{IsTold}

@@ -1,6 +1,6 @@
 use Rattle.std.proofs.Common.{◌≡◌, ◌∙◌, ap, subst, refl, List, ℕ, codes}
-use Rattle.pemb_file.specs.Lawful.{map_of_file}
-use Rattle.pemb_file.proofs.Sizes.{lawful_consistent, lawful_size}
+use Rattle.file_laws.specs.Lawful.{map_of_file}
+use Rattle.file_laws.proofs.Sizes.{lawful_consistent, lawful_size}
 use Rattle.topo_cli.specs.declared.status.Status.TheVariants as status
 use Rattle.topo_cli.specs.declared.load.LoadFault.TheVariants as fault
 use Rattle.topo_cli.specs.Call.{sink_call}

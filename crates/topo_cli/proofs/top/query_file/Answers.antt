@@ -1,6 +1,6 @@
 use Rattle.std.proofs.Common.{◌≡◌, ◌≤◌, refl, arith}
-use Rattle.pemb_file.specs.Lawful.{map_of_file}
-use Rattle.pemb_file.proofs.Sizes.{lawful_consistent, lawful_size}
+use Rattle.file_laws.specs.Lawful.{map_of_file}
+use Rattle.file_laws.proofs.Sizes.{lawful_consistent, lawful_size}
 use Rattle.topo_cli.specs.Words.{Form}
 use Rattle.topo_cli.specs.declared.load.LoadFault.TheVariants as fault
 use Rattle.topo_cli.proofs.Built.{fits_query}

@@ -1,6 +1,6 @@
 use Rattle.std.proofs.Common.{◌≡◌, ◌∙◌, ◌+◌, ◌≤◌, ap, subst, refl, List, ℕ, arith}
 use Rattle.plane_model.specs.PlaneMap.{PlaneMap, map_of}
-use Rattle.pemb_file.specs.Lawful.{map_of_file}
+use Rattle.file_laws.specs.Lawful.{map_of_file}
 use Rattle.map_maker.specs.Grid.{grid_of}
 use Rattle.map_totals.specs.Totals.{adjacent_total, face_total, most_total_words, node_total}
 use Rattle.topo_cli.specs.declared.status.Status.TheVariants as status

@@ -1,5 +1,5 @@
 use Rattle.pemb_file.specs.Served.{contents_of_view}
-use Rattle.pemb_file.proofs.FiveCounts.{counts_of_map}
+use Rattle.file_laws.proofs.FiveCounts.{counts_of_map}
 use Rattle.navigate.specs.Bound.{served_map}
 use Rattle.topo_serve.proofs.Answering.{same_bytes}
 use Rattle.topo_serve.proofs.FiveItems.{listed_counts}

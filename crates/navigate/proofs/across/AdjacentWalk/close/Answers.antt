@@ -1,7 +1,7 @@
 use Rattle.std.proofs.Common.{rules, refl, arith, sym, ◌∙◌, ap, ◌≡◌, ◌*◌, ℕ, List, length}
 use Rattle.std.specs.Prelude.{map}
 use Rattle.scratch_region.specs.Marks.{is_marked}
-use Rattle.pemb_file.specs.Contents.{Contents}
+use Rattle.file_laws.specs.Contents.{Contents}
 use Rattle.plane_model.specs.Sets.{has}
 use Rattle.navigate.specs.Bound.{line_digits}
 use Rattle.navigate.specs.Beside.{place_across}

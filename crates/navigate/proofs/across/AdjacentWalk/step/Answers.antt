@@ -2,8 +2,8 @@ use Rattle.std.proofs.Common.{arith, sym, ◌∙◌, ap, subst, ◌≡◌, ◌�
 use Rattle.std.specs.Prelude.{map, take, drop}
 use Rattle.scratch_region.specs.Marks.{is_marked}
 use Rattle.plane_model.specs.Sets.{has}
-use Rattle.pemb_file.specs.Contents.{Contents}
-use Rattle.pemb_file.specs.MapOfFile.{face_at_place}
+use Rattle.file_laws.specs.Contents.{Contents}
+use Rattle.file_laws.specs.MapOfFile.{face_at_place}
 use Rattle.navigate.specs.Bound.{line_digits}
 use Rattle.navigate.specs.Beside.{adjacent_places}
 use Rattle.navigate.specs.Standing.{IsStanding}

@@ -1,6 +1,6 @@
 use Rattle.std.proofs.Common.{ap, ◌∙◌}
 use Rattle.code_laws.specs.Numbers.{ring_of}
-use Rattle.pemb_file.specs.MapOfFile.{place_of_ring}
+use Rattle.file_laws.specs.MapOfFile.{place_of_ring}
 use Rattle.navigate.specs.FaceWalk.{contents_in}
 use Rattle.navigate.specs.Beside.{place_across}
 use Rattle.navigate.proofs.face_rings.FaceWalk.place_across.Goals as goal

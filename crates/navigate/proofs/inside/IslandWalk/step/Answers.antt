@@ -1,7 +1,7 @@
 use Rattle.std.proofs.Common.{arith, ap, ◌∙◌, ◌+◌, ◌-◌, length, refl}
 use Rattle.std.specs.Prelude.{slice_index}
 use Rattle.topo_base.specs.Script.{Item}
-use Rattle.pemb_file.specs.MapOfFile.{signed_at}
+use Rattle.file_laws.specs.MapOfFile.{signed_at}
 use Rattle.navigate.specs.IslandWalk.{contents_in, items_between, rest, allowance}
 use Rattle.navigate.proofs.IslandLaws.{hole_first, node_first, none_left, island_paid}
 use Rattle.navigate.proofs.inside.IslandWalk.step.Goals as goal

@@ -1,5 +1,5 @@
 use Rattle.std.proofs.Common.{arith, ◌∙◌, ap}
-use Rattle.pemb_file.specs.MapOfFile.{signed_at}
+use Rattle.file_laws.specs.MapOfFile.{signed_at}
 use Rattle.navigate.proofs.Resting.{rest-none, rest-some, allowance-none, paid-some}
 use Rattle.navigate.proofs.orbit_walk.OrbitWalk.step.Goals as goal
 

@@ -1,7 +1,7 @@
 use Rattle.std.proofs.Common.{arith, ap, ◌∙◌}
 use Rattle.bit_words.specs.Bits.{bits_in}
 use Rattle.bit_words.specs.WordView.{words_of}
-use Rattle.pemb_file.specs.Layout.{counts_in, section, part, bits_at}
+use Rattle.file_laws.specs.Layout.{counts_in, section, part, bits_at}
 use Rattle.pemb_file.proofs.KindLaws.{bits-width, words-hold}
 use Rattle.pemb_file.proofs.image.Image.bits.Goals as goal
 

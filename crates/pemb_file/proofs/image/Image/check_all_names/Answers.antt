@@ -2,10 +2,10 @@ use Rattle.std.specs.Prelude.{option_map}
 use Rattle.std.proofs.Common.{arith, ◌∙◌}
 use Rattle.std.proofs.lemmas.Result.{err_from_is_err_and}
 use Rattle.bit_words.specs.WordView.{words_of}
-use Rattle.pemb_file.specs.Layout.{counts_in}
-use Rattle.pemb_file.specs.Contents.{contents_of}
-use Rattle.pemb_file.specs.Faults.{all_names_fault, names_fault}
-use Rattle.pemb_file.specs.declared.fault.FileFault.TheVariants as fault
+use Rattle.file_laws.specs.Layout.{counts_in}
+use Rattle.file_laws.specs.Contents.{contents_of}
+use Rattle.file_laws.specs.Faults.{all_names_fault, names_fault}
+use Rattle.file_laws.specs.declared.fault.FileFault.TheVariants as fault
 use Rattle.pemb_file.proofs.SectionTable.{counted}
 use Rattle.pemb_file.proofs.FrontFaults.{first-some, first-none, first-last}
 use Rattle.pemb_file.proofs.Wrong.{some-finds}

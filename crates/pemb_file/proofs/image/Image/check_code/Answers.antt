@@ -2,10 +2,10 @@ use Rattle.std.specs.Prelude.{option_map}
 use Rattle.std.proofs.Common.{◌≡◌, true, arith, ap, sym, ◌∙◌, subst}
 use Rattle.bit_words.specs.WordView.{words_of}
 use Rattle.code_laws.specs.SeqFault.{seq_fault, is_sound}
-use Rattle.pemb_file.specs.Layout.{counts_in}
-use Rattle.pemb_file.specs.declared.fault.FileFault.TheVariants as fault
+use Rattle.file_laws.specs.Layout.{counts_in}
+use Rattle.file_laws.specs.declared.fault.FileFault.TheVariants as fault
 use Rattle.pemb_file.proofs.CodeParts.{code-is, sound-none, code_counts}
-use Rattle.pemb_file.proofs.Sections.{counts_fit}
+use Rattle.file_laws.proofs.Sections.{counts_fit}
 use Rattle.pemb_file.proofs.image.Image.check_code.Goals as goal
 
 pub check-requires-clause-some : goal.check-requires-clause-some

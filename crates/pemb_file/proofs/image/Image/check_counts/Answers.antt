@@ -3,7 +3,7 @@ use Rattle.bit_words.specs.WordView.{words_of}
 use Rattle.bit_words.specs.BitView.{bits_of}
 use Rattle.bit_words.specs.PackedView.{fields_of}
 use Rattle.rank_select.specs.Counts.{blocks, counts_of}
-use Rattle.pemb_file.specs.Layout.{counts_in}
+use Rattle.file_laws.specs.Layout.{counts_in}
 use Rattle.pemb_file.proofs.KindLaws.{directory-count}
 use Rattle.pemb_file.proofs.Wrong.{wrong-at}
 use Rattle.pemb_file.proofs.image.Image.check_counts.Goals as goal

@@ -1,7 +1,7 @@
 use Rattle.std.proofs.Common.{arith, ◌≡◌, ◌*◌, ◌+◌, ◌/◌, ap, sym, ◌∙◌, Some, subst}
 use Rattle.bit_words.specs.WordView.{words_of}
-use Rattle.pemb_file.specs.Layout.{counts_in, section, section_bits}
-use Rattle.pemb_file.specs.declared.fault.FileFault.TheVariants as fault
+use Rattle.file_laws.specs.Layout.{counts_in, section, section_bits}
+use Rattle.file_laws.specs.declared.fault.FileFault.TheVariants as fault
 use Rattle.pemb_file.proofs.PaddingLaws.{bits-as, last-word, pad-begin, pad-step, pad-wrong, pad-right, Padding}
 use Rattle.pemb_file.proofs.image.Image.check_padding.Goals as goal
 

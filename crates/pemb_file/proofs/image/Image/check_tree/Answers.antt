@@ -2,7 +2,7 @@ use Rattle.std.proofs.Common.{ap, sym, ◌∙◌}
 use Rattle.bit_words.specs.WordView.{words_of}
 use Rattle.bit_words.specs.BitView.{bits_of}
 use Rattle.min_max_tree.specs.Tree.{tree_size, nodes_of}
-use Rattle.pemb_file.specs.Layout.{counts_in}
+use Rattle.file_laws.specs.Layout.{counts_in}
 use Rattle.pemb_file.proofs.KindLaws.{tree-words}
 use Rattle.pemb_file.proofs.Wrong.{wrong-at}
 use Rattle.pemb_file.proofs.image.Image.check_tree.Goals as goal

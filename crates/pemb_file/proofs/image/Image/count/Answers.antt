@@ -1,6 +1,6 @@
 use Rattle.std.proofs.Common.{arith, ap}
 use Rattle.bit_words.specs.WordView.{words_of}
-use Rattle.pemb_file.specs.Layout.{counts_in, section}
+use Rattle.file_laws.specs.Layout.{counts_in, section}
 use Rattle.pemb_file.proofs.KindLaws.{count-few}
 use Rattle.pemb_file.proofs.image.Image.count.Goals as goal
 

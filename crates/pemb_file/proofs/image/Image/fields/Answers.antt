@@ -1,7 +1,7 @@
 use Rattle.std.proofs.Common.{arith, ap, sym, ◌∙◌, ◌*◌}
 use Rattle.bit_words.specs.Bits.{fields_in}
 use Rattle.bit_words.specs.WordView.{words_of}
-use Rattle.pemb_file.specs.Layout.{counts_in, section, part, fields_at}
+use Rattle.file_laws.specs.Layout.{counts_in, section, part, fields_at}
 use Rattle.pemb_file.proofs.KindLaws.{fields-width, words-hold}
 use Rattle.pemb_file.proofs.image.Image.fields.Goals as goal
 

@@ -1,7 +1,7 @@
 use Rattle.std.proofs.Common.{arith, ap}
 use Rattle.bit_words.specs.WordView.{words_of}
-use Rattle.pemb_file.specs.Layout.{counts_in, section_from}
-use Rattle.pemb_file.proofs.Following.{section_within}
+use Rattle.file_laws.specs.Layout.{counts_in, section_from}
+use Rattle.file_laws.proofs.Following.{section_within}
 use Rattle.pemb_file.proofs.image.Image.first_word.Goals as goal
 
 pub overflow_cast-result : goal.overflow_cast-result

@@ -1,6 +1,6 @@
 use Rattle.std.proofs.Common.{arith, ◌*◌}
 use Rattle.bit_words.specs.WordView.{words_of}
-use Rattle.pemb_file.specs.Layout.{counts_in, section}
+use Rattle.file_laws.specs.Layout.{counts_in, section}
 use Rattle.pemb_file.proofs.PaddingLaws.{bits-as, last-word, last-bits}
 use Rattle.pemb_file.proofs.image.Image.is_padded.Goals as goal
 

@@ -1,6 +1,6 @@
 use Rattle.std.proofs.Common.{ap, ◌∙◌}
 use Rattle.bit_words.specs.WordView.{words_of}
-use Rattle.pemb_file.specs.Layout.{section, section_words}
+use Rattle.file_laws.specs.Layout.{section, section_words}
 use Rattle.pemb_file.proofs.KindLaws.{part-range}
 use Rattle.pemb_file.proofs.image.Image.part.Goals as goal
 

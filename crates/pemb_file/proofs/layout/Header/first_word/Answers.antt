@@ -1,6 +1,6 @@
 use Rattle.std.proofs.Common.{arith, sym}
 use Rattle.pemb_file.specs.Header.{counts_of_header}
-use Rattle.pemb_file.proofs.Following.{section_first, section_next}
+use Rattle.file_laws.proofs.Following.{section_first, section_next}
 use Rattle.pemb_file.proofs.layout.Header.first_word.Goals as goal
 
 pub loop-before-init : goal.loop-before-init

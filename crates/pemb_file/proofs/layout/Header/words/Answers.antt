@@ -1,6 +1,6 @@
 use Rattle.std.proofs.Common.{◌*◌, ◌+◌, ◌/◌, ap, ◌∙◌}
 use Rattle.pemb_file.specs.Header.{counts_of_header}
-use Rattle.pemb_file.specs.Layout.{section, section_words}
+use Rattle.file_laws.specs.Layout.{section, section_words}
 use Rattle.pemb_file.proofs.layout.Header.words.Goals as goal
 
 pub returns-clause-words : goal.returns-clause-words

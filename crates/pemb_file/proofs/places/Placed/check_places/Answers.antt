@@ -1,9 +1,9 @@
 use Rattle.std.specs.Prelude.{option_map}
 use Rattle.std.proofs.Common.{ap, sym, ◌∙◌}
 use Rattle.std.proofs.lemmas.Result.{err_from_is_err_and}
-use Rattle.pemb_file.specs.Faults.{places_fault, place_fault, order_fault, isolated_fault}
+use Rattle.file_laws.specs.Faults.{places_fault, place_fault, order_fault, isolated_fault}
 use Rattle.pemb_file.specs.PlacedView.{contents_of_placed}
-use Rattle.pemb_file.specs.declared.fault.FileFault.TheVariants as fault
+use Rattle.file_laws.specs.declared.fault.FileFault.TheVariants as fault
 use Rattle.pemb_file.proofs.FrontFaults.{first-some, first-none, first-last}
 use Rattle.pemb_file.proofs.Wrong.{some-finds}
 use Rattle.pemb_file.proofs.places.Placed.check_places.Goals as goal

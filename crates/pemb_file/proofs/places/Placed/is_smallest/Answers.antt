@@ -7,7 +7,7 @@ use Rattle.code_laws.specs.Code.{start_of, end_of}
 use Rattle.code_laws.proofs.Sound.{sound_parts, rises}
 use Rattle.code_laws.specs.Numbers.{ring_of, is_outer}
 use Rattle.topo_base.specs.SignedEdge.{comes_before}
-use Rattle.pemb_file.specs.MapOfFile.{signed_at}
+use Rattle.file_laws.specs.MapOfFile.{signed_at}
 use Rattle.pemb_file.specs.PlacedView.{contents_of_placed}
 use Rattle.pemb_file.proofs.PlaceSteps.{start-below, at-most}
 use Rattle.pemb_file.proofs.Smallest.{is_smaller, not-smallest, all-smallest, end-within}

@@ -3,7 +3,7 @@ use Rattle.std.proofs.Common.{w32, SFits, to_z, of_z, rules, arith, sym, ap, ◌
 use Rattle.turan_code.specs.TuranView.{code_of_view}
 use Rattle.code_laws.specs.Code.{start_of}
 use Rattle.topo_base.specs.SignedEdge.{comes_before}
-use Rattle.pemb_file.specs.MapOfFile.{signed_at}
+use Rattle.file_laws.specs.MapOfFile.{signed_at}
 use Rattle.pemb_file.specs.PlacedView.{contents_of_placed}
 use Rattle.pemb_file.proofs.PlaceSteps.{start-below, precedes-same}
 use Rattle.pemb_file.proofs.places.Placed.precedes.Goals as goal

@@ -1,7 +1,7 @@
 use Rattle.std.specs.Prelude.{pos, neg_ℤ}
 use Rattle.std.proofs.Common.{◌≡◌, arith}
 use Rattle.std.proofs.lemmas.Int.{ints}
-use Rattle.pemb_file.specs.MapOfFile.{signed_at}
+use Rattle.file_laws.specs.MapOfFile.{signed_at}
 use Rattle.pemb_file.specs.PlacedView.{contents_of_placed}
 use Rattle.pemb_file.proofs.PlaceSteps.{signed-as, signed-other}
 use Rattle.pemb_file.proofs.places.Placed.signed_at.Goals as goal

@@ -1,5 +1,5 @@
 use Rattle.std.proofs.Common.{◌≤◌, ◌+◌, ◌*◌}
-use Rattle.pemb_file.specs.Faults.{is_isolated}
+use Rattle.file_laws.specs.Faults.{is_isolated}
 use Rattle.pemb_file.specs.PlacedView.{contents_of_placed}
 use Rattle.pemb_file.proofs.Nots.{PassBelow}
 use Rattle.pemb_file.proofs.places.Placed.wrong_isolated.Given as goal

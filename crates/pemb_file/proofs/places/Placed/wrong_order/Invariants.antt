@@ -1,6 +1,6 @@
 use Rattle.std.proofs.Common.{◌≤◌, ◌+◌, ◌*◌, length}
 use Rattle.bit_words.specs.Digits.{digits}
-use Rattle.pemb_file.specs.Faults.{is_ordered}
+use Rattle.file_laws.specs.Faults.{is_ordered}
 use Rattle.pemb_file.specs.PlacedView.{contents_of_placed}
 use Rattle.pemb_file.proofs.Nots.{PassBelow}
 use Rattle.pemb_file.proofs.places.Placed.wrong_order.Given as goal

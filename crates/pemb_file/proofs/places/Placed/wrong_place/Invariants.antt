@@ -2,7 +2,7 @@ use Rattle.std.proofs.Common.{◌≤◌, ◌+◌, ◌*◌, ◌&&◌, length}
 use Rattle.std.specs.Prelude.{slice_index}
 use Rattle.bit_words.specs.Digits.{digits}
 use Rattle.code_laws.specs.Code.{start_of}
-use Rattle.pemb_file.specs.Faults.{is_place, begins_before}
+use Rattle.file_laws.specs.Faults.{is_place, begins_before}
 use Rattle.pemb_file.specs.PlacedView.{contents_of_placed}
 use Rattle.pemb_file.proofs.Nots.{PassBelow}
 use Rattle.pemb_file.proofs.places.Placed.wrong_place.Given as goal

@@ -1,6 +1,6 @@
 use Rattle.pemb_file.specs.Served.{contents_of_view}
-use Rattle.pemb_file.proofs.Whole.{whole_parts}
-use Rattle.pemb_file.proofs.RegionNumbers.{region_opens}
+use Rattle.file_laws.proofs.Whole.{whole_parts}
+use Rattle.file_laws.proofs.RegionNumbers.{region_opens}
 use Rattle.pemb_file.proofs.served.Served.regions.Goals as goal
 
 pub new-requires-clause-count : goal.new-requires-clause-count

@@ -1,0 +1,9 @@
+pub mod Layout
+pub mod Contents
+pub mod MapOfFile
+pub mod Faults
+pub mod Lawful
+pub mod Agreement
+pub mod Counted
+pub mod Image
+pub mod Worked
