@@ -58,7 +58,7 @@ impl<'r> Marks<'r> {
 }
 
 /// Puts 0 into each word.
-fn zero(words: &mut [u64])
+pub(crate) fn zero(words: &mut [u64])
     ensures { (k : ℕ) → slice_index words.new k ≡ 0 }
 {
     for word in words.iter_mut() {

@@ -1,10 +1,11 @@
-//! Lent words, and the parts carved out of them.
+//! Lent words, and the sets and lists carved out of them.
 
 ghost use Rattle.std.specs.Prelude.{◌≤◌, length};
 
 use crate::marks::Marks;
+use crate::numbers::Numbers;
 
-/// Lent words from which sets are carved.
+/// Lent words from which sets and lists are carved.
 #[derive(Drop)]
 pub struct Region<'r> {
     words: &'r mut [u64],
@@ -20,8 +21,9 @@ pub struct Short<'r> {
 }
 
 impl<'r> Region<'r> {
-    ghost use Rattle.std.specs.Prelude.{◌≡◌, ◌<◌, ◌*◌, ◌+◌, ◌≤◌, ◌↔◌, length, IsErr, IfOk, IfErr};
+    ghost use Rattle.std.specs.Prelude.{◌≡◌, ◌<◌, ◌*◌, ◌+◌, ◌≤◌, ◌↔◌, length, replicate, IsErr, IfOk, IfErr};
     ghost use Rattle.scratch_region.specs.Marks.{room_of, IsEmpty};
+    ghost use Rattle.scratch_region.specs.Numbers.{numbers_of};
     ghost use Rattle.scratch_region.specs.Region.{words_left};
 
     /// All of these words.
@@ -60,5 +62,26 @@ impl<'r> Region<'r> {
         let Region { words: all } = self;
         let (front, back) = all.split_at_mut(words);
         Ok((Marks::none(front), Region { words: back }))
+    }
+    /// A list of so many zeros, one a word, and the region without these words.
+    pub fn carve_numbers(self, count: usize) -> Result<(Numbers<'r>, Region<'r>), Short<'r>>
+        ensures short { IsErr result ↔ (words_left self.entry < count) }
+        ensures zeros { IfOk result (λ parts. numbers_of parts.0 ≡ replicate count 0) }
+        ensures left { IfOk result (λ parts. words_left parts.1 + count ≡ words_left self.entry) }
+        ensures need { IfErr result (λ short. short.need ≡ count) }
+        ensures had { IfErr result (λ short. short.left ≡ words_left self.entry) }
+        ensures kept { IfErr result (λ short. short.region ≡ self.entry) }
+    {
+        let all = self.words.len();
+        if all < count {
+            return Err(Short {
+                need: count,
+                left: all,
+                region: self,
+            });
+        }
+        let Region { words } = self;
+        let (numbers, rest) = words.split_at_mut(count);
+        Ok((Numbers::zeros(numbers), Region { words: rest }))
     }
 }

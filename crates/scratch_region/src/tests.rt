@@ -52,3 +52,25 @@ fn two_parts_keep_their_own_numbers(rt: HostRuntime) {
         Err(_) => assert!(rt; false),
     }
 }
+
+#[test]
+fn numbers_begin_at_0_and_change_one_at_a_time(rt: HostRuntime) {
+    let mut words = [u64::MAX; 2];
+    match Region::new(&mut words).carve_numbers(3) {
+        Ok(_) => assert!(rt; false),
+        Err(short) => {
+            assert_eq!(rt; short.need, 3);
+            assert_eq!(rt; short.left, 2);
+            match short.region.carve_numbers(2) {
+                Ok((mut numbers, rest)) => {
+                    assert_eq!(rt; rest.left(), 0);
+                    assert_eq!(rt; numbers.len(), 2);
+                    assert!(rt; numbers.get(0) == 0 && numbers.get(1) == 0);
+                    numbers.set(1, u64::MAX);
+                    assert!(rt; numbers.get(0) == 0 && numbers.get(1) == u64::MAX);
+                }
+                Err(_) => assert!(rt; false),
+            }
+        }
+    }
+}
