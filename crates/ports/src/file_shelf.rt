@@ -16,8 +16,9 @@ use std::io::ErrorKind;
 /// every other error, is a failed read. A write to any of these is a failed
 /// write.
 ///
-/// One file stays open: a piece that goes on where the last one ended costs one
-/// call of the system, and every other piece opens its file anew.
+/// One file stays open: a read that goes on where the last one ended, and an
+/// append behind `start`, cost one call of the system, and every other piece
+/// opens its file anew. None is open after an append.
 #[derive(Drop)]
 pub struct FileShelf<'r, R: Files> {
     rt: &'r R,

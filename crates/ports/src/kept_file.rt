@@ -110,7 +110,7 @@ pub(crate) fn start_file<R: Files>(
 }
 
 /// Writes behind the last byte of a file that is there, until the bytes are
-/// out. A write that goes on behind the last one needs no opening.
+/// out, and closes it. A write behind `start_file` needs no opening.
 pub(crate) fn append_to_file<R: Files>(
     rt: &R,
     open: &mut Option<KeptFile<R::File>>,
@@ -121,11 +121,11 @@ pub(crate) fn append_to_file<R: Files>(
         Some(kept) if kept.is_for(name, Purpose::Append) => kept,
         _ => open_to_append(rt, name)?,
     };
-    if !write_out(&mut kept.file, bytes) {
-        return Err(io::Error::from(ErrorKind::WriteZero));
+    if write_out(&mut kept.file, bytes) {
+        Ok(())
+    } else {
+        Err(io::Error::from(ErrorKind::WriteZero))
     }
-    *open = Some(kept);
-    Ok(())
 }
 
 fn open_to_append<R: Files>(rt: &R, name: &str) -> io::Result<KeptFile<R::File>> {
