@@ -1,0 +1,18 @@
+use Rattle.std.proofs.Common.{ap, sym, subst, ◌∙◌, length, arith, ◌+◌, ◌≤◌}
+use Rattle.bit_words.specs.Digits.{digits}
+use Rattle.rising_names.specs.Names.{AreDistinctIds}
+use Rattle.rising_names.proofs.HighLaws.{Fit}
+use Rattle.rising_names.proofs.InCycles.{ids_of, length-ids_of, distinct_ids, narrow, fit}
+use Rattle.rising_names.proofs.tests.make.goes_both_ways.Goals as goal
+
+pub make-requires-clause-few : goal.make-requires-clause-few
+make-requires-clause-few c = omega (arith, ap length (c.deref.ensures.value ∙ c.in_ok-ids.ensures), length-ids_of c.args.cycles c.args.len c.requires.some c.requires.few, c.requires.few)
+
+pub make-requires-clause-names : goal.make-requires-clause-names
+make-requires-clause-names c = subst AreDistinctIds (sym (c.deref.ensures.value ∙ c.in_ok-ids.ensures)) (distinct_ids c.args.cycles c.args.len c.requires.some c.requires.few)
+
+pub make-requires-clause-narrow : goal.make-requires-clause-narrow
+make-requires-clause-narrow c = subst (λ ids. digits (length ids) + 14 ≤ 31) (sym (c.deref.ensures.value ∙ c.in_ok-ids.ensures)) (narrow c.args.cycles c.args.len c.requires.some c.requires.few)
+
+pub make-requires-clause-fit : goal.make-requires-clause-fit
+make-requires-clause-fit c = subst (Fit 14) (sym (c.deref.ensures.value ∙ c.in_ok-ids.ensures)) (fit c.args.cycles c.args.len c.requires.some c.requires.few)

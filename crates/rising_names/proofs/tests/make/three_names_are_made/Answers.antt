@@ -1,0 +1,18 @@
+use Rattle.std.proofs.Common.{refl, [], ◌∷◌}
+use Rattle.bit_words.specs.Digits.{digits}
+use Rattle.rising_names.specs.Names.{number_of, is_names}
+use Rattle.rising_names.proofs.InCycles.{fit_from_test, narrow_from_test}
+use Rattle.rising_names.proofs.NumberLaws.{names_from_test}
+use Rattle.rising_names.proofs.tests.make.three_names_are_made.Goals as goal
+
+pub make-requires-clause-names : goal.make-requires-clause-names
+unfolding is_names number_of
+make-requires-clause-names g c = names_from_test _ refl
+
+pub make-requires-clause-narrow : goal.make-requires-clause-narrow
+unfolding digits
+make-requires-clause-narrow g c = narrow_from_test 29 (2 ∷ 1 ∷ 3 ∷ []) refl
+
+pub make-requires-clause-fit : goal.make-requires-clause-fit
+unfolding digits
+make-requires-clause-fit g c = fit_from_test 29 (2 ∷ 1 ∷ 3 ∷ []) refl

@@ -1,0 +1,108 @@
+//! Names that are asked both ways: the id of a number, and the number of an id.
+
+ghost use Rattle.std.specs.Prelude.{◌≡◌, length, None};
+ghost use Rattle.bit_words.specs.PackedView.{fields_of};
+ghost use Rattle.rank_select.specs.RankView.{counted};
+ghost use Rattle.rank_select.specs.Counts.{counts_of};
+ghost use Rattle.rising_names.specs.Faults.{name_fault};
+ghost use Rattle.rising_names.specs.PartViews.{names_over};
+
+use crate::inverse::Inverse;
+use crate::name_parts::NameParts;
+use crate::rising_ids::RisingIds;
+use bit_words::Steps;
+use rank_select::RankView;
+use std::cmp::Ordering;
+use std::sync::ledger::Ledger;
+use topo_base::IdNumber;
+
+/// An id for each number from 0 on, no two the same.
+#[derive(Clone, Copy)]
+pub struct NamesView<'a> {
+    ids: RisingIds<'a>,
+    inverse: Inverse<'a>,
+    ghost count: { length (fields_of ids.lows) ≡ length (fields_of inverse.places) },
+    ghost right: { name_fault (names_over ids inverse) (counts_of (counted ids.high)) (counts_of (counted inverse.marks)) ≡ None },
+}
+
+impl<'a> NamesView<'a> {
+    ghost use Rattle.std.specs.Prelude.{◌≡◌, ◌≢◌, ◌<◌, ◌≤◌, ◌+◌, ◌*◌, ℕ, length, slice_index, None, MatchOption};
+    ghost use Rattle.bit_words.specs.Digits.{digits};
+    ghost use Rattle.rising_names.specs.Names.{AreDistinctIds, number_of};
+    ghost use Rattle.rising_names.specs.RisingNames.{id_at};
+    ghost use Rattle.rising_names.specs.Parts.{fault_of, names_of, HasSizes};
+    ghost use Rattle.rising_names.specs.Views.{ids_of, names_in};
+
+    /// The names of these parts, which `make` makes and `check` finds right.
+    pub fn new(parts: NameParts<'a>) -> NamesView<'a>
+        requires sizes { HasSizes parts }
+        requires right { fault_of parts ≡ None }
+        ensures { names_in result ≡ names_of parts.entry }
+    {
+        NamesView {
+            ids: RisingIds {
+                high: RankView::new(parts.high, parts.high_counts),
+                lows: parts.lows,
+            },
+            inverse: Inverse {
+                places: parts.places,
+                marks: RankView::new(parts.marks, parts.mark_counts),
+                back: parts.back,
+            },
+        }
+    }
+
+    /// How many numbers have an id.
+    #[inline]
+    pub fn count(&self) -> usize
+        ensures count { result ≡ length (ids_of self.now) }
+        ensures few { result ≤ 16777216 }
+        ensures names { AreDistinctIds (ids_of self.now) }
+    {
+        self.inverse.places.count()
+    }
+
+    /// The id of a number.
+    #[inline]
+    pub fn id_of<C: Ledger>(&self, number: usize, steps: &mut Steps<C>) -> IdNumber
+        requires { number < length (ids_of self.now) }
+        ensures id { result ≡ slice_index (ids_of self.now) number }
+        ensures some_steps { steps.old + 1 ≤ steps.new }
+        ensures cost { steps.new ≤ steps.old + 3 * digits (length (ids_of self.now) + 2) + 20 }
+    {
+        let place = self.inverse.places.field(number, steps) as usize;
+        self.ids.id(place, steps) as IdNumber
+    }
+
+    /// The place of the list at which this id stands, or None where it stands at none.
+    fn place_of<C: Ledger>(&self, id: IdNumber, steps: &mut Steps<C>) -> Option<usize>
+        ensures place { MatchOption result ((k : ℕ) → k < length (ids_of self.now) → id_at (names_in self.now) k ≢ id) (λ place. (place < length (ids_of self.now)) × (id_at (names_in self.now) place ≡ id)) }
+        ensures grows { steps.old ≤ steps.new }
+        ensures cost { steps.new ≤ steps.old + 8 * digits (length (ids_of self.now) + 2) + 32 }
+    {
+        let low = self.ids.lows.width();
+        let high = (id >> low) as usize;
+        let wanted = u64::from(id) % (1 << low);
+        let (mut from, mut to) = self.ids.bucket(high, steps);
+        while from < to {
+            let middle = from + (to - from) / 2;
+            match self.ids.lows.field(middle, steps).cmp(&wanted) {
+                Ordering::Less => from = middle + 1,
+                Ordering::Equal => return Some(middle),
+                Ordering::Greater => to = middle,
+            }
+        }
+        None
+    }
+
+    /// The number that has this id, or None where no number has it.
+    pub fn number_of<C: Ledger>(&self, id: IdNumber, steps: &mut Steps<C>) -> Option<usize>
+        ensures number { result ≡ number_of (ids_of self.now) id }
+        ensures found { MatchOption result ((k : ℕ) → k < length (ids_of self.now) → slice_index (ids_of self.now) k ≢ id) (λ number. (number < length (ids_of self.now)) × (slice_index (ids_of self.now) number ≡ id)) }
+        ensures grows { steps.old ≤ steps.new }
+        ensures cost { steps.new ≤ steps.old + 12 * digits (length (ids_of self.now) + 2) + 60 }
+    {
+        let place = self.place_of(id, steps)?;
+        self.inverse.number(place, steps)
+    }
+}
