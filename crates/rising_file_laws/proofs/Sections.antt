@@ -1,0 +1,189 @@
+-- What the sections of a lawful file hold is whole.
+use Rattle.std.specs.Prelude.{nat_lt, is_none, option_map}
+use Rattle.std.proofs.Common.{◌≡◌, ℕ, ◌+◌, ◌*◌, ◌≤◌, true, List, length, refl, sym, ◌∙◌, arith, Option, None, ◌==◌, IsTrue}
+use Rattle.std.proofs.lemmas.Bool.{and_from, eq-eqb, le-leb, lt-ltb, leb-true, and_parts}
+use Rattle.std.proofs.lemmas.List.FromFn.{length-map-range_with_len}
+use Rattle.bit_words.specs.Lists.{tabulate}
+use Rattle.bit_words.specs.Bits.{bits_in, fields_in}
+use Rattle.parens.specs.Matching.{balance_fault}
+use Rattle.code_laws.specs.SeqFault.{seq_fault, is_sound}
+use Rattle.code_laws.specs.Numbers.{tree_edges}
+use Rattle.id_names.specs.Names.{is_names}
+use Rattle.rising_names.specs.RisingNames.{ids_by_number}
+use Rattle.file_laws.specs.Layout.{words_of}
+use Rattle.file_laws.specs.Contents.{Contents, component_count}
+use Rattle.file_laws.specs.Faults.{places_fault, start_fault, member_fault}
+use Rattle.file_laws.specs.Lawful.{is_whole, has_sizes}
+use Rattle.file_laws.specs.declared.fault.FileFault.TheVariants as fault
+use Rattle.file_laws.proofs.Lengths.{first_none, unless-true}
+use Rattle.file_laws.proofs.Whole.{option_none}
+use Rattle.file_laws.proofs.Sections.{sizes_from, whole_from, none-is}
+use Rattle.rising_file_laws.specs.Layout.{HeaderCounts, counts_in, sections, section, bits_at, fields_at, face_count, node_count}
+use Rattle.rising_file_laws.specs.Held.{names_at, ids_at, contents_of}
+use Rattle.rising_file_laws.specs.Faults.{count_fault, directories_fault, names_fault, all_names_fault, regions_fault, padding_fault, told_in}
+use Rattle.rising_file_laws.specs.Lawful.{is_lawful, content_fault}
+use Rattle.rising_file_laws.proofs.Lengths.{no_faults}
+use Rattle.rising_file_laws.proofs.Names.{ids_pass}
+
+pub length-bits : (words : List ℕ) (number : ℕ) → length (bits_at words number) ≡ (section (counts_in words) number).count
+unfolding bits_at bits_in tabulate
+length-bits words number = length-map-range_with_len _ 0 (section (counts_in words) number).count
+
+pub length-fields : (words : List ℕ) (number : ℕ) → length (fields_at words number) ≡ (section (counts_in words) number).count
+unfolding fields_at fields_in tabulate
+length-fields words number = length-map-range_with_len _ 0 (section (counts_in words) number).count
+
+-- as many ids as places
+pub length-ids : (words : List ℕ) (number : ℕ) → length (ids_at words number) ≡ (section (counts_in words) (number + 4)).count
+unfolding ids_at names_at ids_by_number tabulate
+length-ids words number = length-map-range_with_len _ 0 (length (fields_at words (number + 4))) ∙ length-fields words (number + 4)
+
+-- how many fields each section has
+pub record SectionsHave (words : List ℕ) (c : HeaderCounts) : Type 0 where
+  pub a : length (bits_at words 1) ≡ 2 * c.edges
+  pub tree : length (bits_at words 3) ≡ 2 * c.tree_edges
+  pub dual : length (bits_at words 6) ≡ 2 * face_count c
+  pub starts : length (fields_at words 9) ≡ c.components + 1
+  pub forward : length (bits_at words 10) ≡ c.edges
+  pub nodes : length (ids_at words 30) ≡ node_count c
+  pub edges : length (ids_at words 40) ≡ c.edges
+  pub faces : length (ids_at words 50) ≡ face_count c
+  pub places : length (fields_at words 17) ≡ c.components
+  pub place_order : length (fields_at words 18) ≡ c.components
+  pub isolated : length (fields_at words 19) ≡ c.isolated
+  pub region_bits : length (bits_at words 20) ≡ 2 * c.regions
+  pub regions : length (ids_at words 60) ≡ c.regions
+  pub members : length (fields_at words 25) ≡ face_count c + 1
+
+pub sections_have : (words : List ℕ) → SectionsHave words (counts_in words)
+unfolding section sections
+sections_have words =
+    record {
+      a = length-bits words 1;
+      tree = length-bits words 3;
+      dual = length-bits words 6;
+      starts = length-fields words 9;
+      forward = length-bits words 10;
+      nodes = length-ids words 30;
+      edges = length-ids words 40;
+      faces = length-ids words 50;
+      places = length-fields words 17;
+      place_order = length-fields words 18;
+      isolated = length-fields words 19;
+      region_bits = length-bits words 20;
+      regions = length-ids words 60;
+      members = length-fields words 25;
+    }
+
+-- what holds of counts without fault
+pub record CountsFit (c : HeaderCounts) : Type 0 where
+  pub edges : c.edges ≤ 16777216
+  pub tree : c.tree_edges ≤ c.edges
+  pub components : c.components ≤ c.edges
+  pub nodes : node_count c ≤ 16777216
+  pub regions : c.regions ≤ 16777216
+  pub node_back : c.node_back ≤ node_count c
+  pub edge_back : c.edge_back ≤ c.edges
+  pub face_back : c.face_back ≤ face_count c
+  pub region_back : c.region_back ≤ c.regions
+
+pub counts_fit : (c : HeaderCounts) → count_fault c ≡ None → CountsFit c
+unfolding count_fault
+counts_fit c h =
+    let f6 = first_none _ _ h in
+    let f7 = first_none _ _ f6.1 in
+    let f8 = first_none _ _ f7.1 in
+    let f9 = first_none _ _ f8.1 in
+    let f10 = first_none _ _ f9.1 in
+    let f11 = first_none _ _ f10.1 in
+    let f12 = first_none _ _ f11.1 in
+    let f13 = first_none _ _ f12.1 in
+    let f14 = first_none _ _ f13.1 in
+    record {
+      edges = leb-true _ _ (unless-true _ _ f6.0);
+      tree = leb-true _ _ (unless-true _ _ f7.0);
+      components = leb-true _ _ (and_parts _ _ (unless-true _ _ f8.0)).0;
+      nodes = leb-true _ _ (unless-true _ _ f9.0);
+      regions = leb-true _ _ (unless-true _ _ f10.0);
+      node_back = leb-true _ _ (unless-true _ _ f11.0);
+      edge_back = leb-true _ _ (unless-true _ _ f12.0);
+      face_back = leb-true _ _ (unless-true _ _ f13.0);
+      region_back = leb-true _ _ (unless-true _ _ f14.0);
+    }
+
+-- the parts of the last faults
+pub record ContentFits (words : List ℕ) : Type 0 where
+  pub sequence : seq_fault (contents_of words).code ≡ None
+  pub directories : directories_fault words (contents_of words).code ≡ None
+  pub names : all_names_fault words ≡ None
+  pub places : places_fault (contents_of words) ≡ None
+  pub start : start_fault (contents_of words) ≡ None
+  pub regions : regions_fault words (contents_of words) ≡ None
+  pub padding : padding_fault words ≡ None
+
+content_fits : (words : List ℕ) → content_fault words ≡ None → ContentFits words
+unfolding content_fault
+content_fits words h =
+    let c = contents_of words in
+    let a = first_none (option_map fault.Sequence (seq_fault c.code)) _ h in
+    let b = first_none (directories_fault words c.code) _ a.1 in
+    let d = first_none (all_names_fault words) _ b.1 in
+    let e = first_none (places_fault c) _ d.1 in
+    let f = first_none (start_fault c) _ e.1 in
+    let g = first_none (regions_fault words c) _ f.1 in
+    let i = first_none (padding_fault words) _ g.1 in
+    record { sequence = option_none fault.Sequence (seq_fault c.code) a.0; directories = b.0; names = d.0; places = e.0; start = f.0; regions = g.0; padding = i.0 }
+
+names_fit : (words : List ℕ) (number : ℕ) → names_fault words number ≡ None → is_names (ids_at words number) ≡ true
+unfolding names_fault ids_at
+names_fit words number h = ids_pass (names_at words number) (fields_at words (number + 2)) (fields_at words (number + 6)) h
+
+module _ (words : List ℕ) (counts : CountsFit (counts_in words)) (content : ContentFits words) where
+  have : SectionsHave words (counts_in words)
+  have = sections_have words
+
+  sizes_pass : has_sizes (contents_of words) ≡ true
+  unfolding contents_of
+  sizes_pass =
+      let s = have in
+      let k = counts in
+      sizes_from (contents_of words) (omega (arith, s.a, s.edges)) (omega (arith, s.starts, s.places)) (omega (arith, s.forward, s.edges)) (omega (arith, s.nodes, s.places, s.tree, s.isolated))
+      (omega (arith, s.faces, s.tree, s.edges, k.tree)) (omega (arith, s.place_order, s.places)) (omega (arith, s.region_bits, s.regions)) (omega (arith, s.members, s.faces))
+      (omega (arith, s.places, s.edges, k.components)) (omega (arith, s.edges, k.edges)) (omega (arith, s.nodes, k.nodes)) (omega (arith, s.regions, k.regions))
+
+  some_start : nat_lt 0 (length (contents_of words).code.starts) ≡ true
+  unfolding contents_of
+  some_start = let s = have in lt-ltb _ _ (omega (arith, s.starts))
+
+  each_position : (length (contents_of words).code.tree + length (contents_of words).code.dual == length (contents_of words).code.a) ≡ true
+  unfolding contents_of
+  each_position = let s = have in let k = counts in eq-eqb _ _ (omega (arith, s.tree, s.dual, s.a, k.tree))
+
+  sound : is_sound (contents_of words).code ≡ true
+  sound = and_from _ _ (and_from _ _ some_start each_position) (none-is _ content.sequence)
+
+  pub whole_words : is_whole (contents_of words) ≡ true
+  unfolding contents_of all_names_fault regions_fault
+  whole_words =
+      let c = contents_of words in
+      let n30 = first_none (option_map (told_in fault.Name 30) (names_fault words 30)) _ content.names in
+      let n40 = first_none (option_map (told_in fault.Name 40) (names_fault words 40)) _ n30.1 in
+      let n50 = first_none (option_map (told_in fault.Name 50) (names_fault words 50)) _ n40.1 in
+      let r20 = first_none (option_map (fault.RegionPart 20) (balance_fault c.region_bits 0 (length c.region_bits))) _ content.regions in
+      let r21 = first_none _ _ r20.1 in
+      let r22 = first_none _ _ r21.1 in
+      let r60 = first_none (option_map (told_in fault.RegionPart 60) (names_fault words 60)) _ r22.1 in
+      let r25 = first_none (option_map (fault.RegionPart 25) (member_fault c)) _ r60.1 in
+      whole_from c sizes_pass sound
+      (names_fit words 30 (option_none (told_in fault.Name 30) (names_fault words 30) n30.0))
+      (names_fit words 40 (option_none (told_in fault.Name 40) (names_fault words 40) n40.0))
+      (names_fit words 50 (option_none (told_in fault.Name 50) (names_fault words 50) n50.0))
+      (names_fit words 60 (option_none (told_in fault.RegionPart 60) (names_fault words 60) r60.0))
+      content.places content.start
+      (option_none (fault.RegionPart 20) (balance_fault c.region_bits 0 (length c.region_bits)) r20.0)
+      (option_none (fault.RegionPart 25) (member_fault c) r25.0)
+
+pub lawful_whole : (bytes : List ℕ) → IsTrue (is_lawful bytes) → IsTrue (is_whole (contents_of (words_of bytes)))
+lawful_whole bytes h =
+    let n = no_faults bytes h in
+    whole_words (words_of bytes) (counts_fit (counts_in (words_of bytes)) n.counts) (content_fits (words_of bytes) n.content)
