@@ -1,0 +1,5 @@
+pub mod FirstRows
+pub mod Twice
+pub mod Filling
+pub mod Sorted
+pub mod Indexes
