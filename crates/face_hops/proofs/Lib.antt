@@ -1,0 +1,11 @@
+pub mod PathLaws
+pub mod Ways
+pub mod Beside
+pub mod Joined
+pub mod Tables
+pub mod MapFacts
+pub mod Searching
+pub mod Rounding
+pub mod Across
+pub mod Ahead
+pub mod Stepping

@@ -1,0 +1,50 @@
+use Rattle.std.specs.Prelude.{slice_index}
+use Rattle.std.proofs.Common.{arith, ◌∙◌, ap, subst, ◌≡◌, length, refl}
+use Rattle.scratch_region.specs.Numbers.{numbers_of}
+use Rattle.file_laws.specs.Contents.{Contents}
+use Rattle.pemb_file.specs.Served.{contents_of_view}
+use Rattle.face_hops.specs.Distances.{AreDistances}
+use Rattle.face_hops.specs.Search.{IsSearch}
+use Rattle.face_hops.proofs.MapFacts.{beside-sym, beside-known, place_one, known_place, as_many}
+use Rattle.face_hops.proofs.Searching.{tail_few, finish}
+use Rattle.face_hops.proofs.breadth.Search.finish.Goals as goal
+
+pub loop-self-init : goal.loop-self-init
+loop-self-init g c = record { served = refl; from = refl; searching = c.requires; grows = omega arith }
+
+pub loop-self-smaller : goal.loop-self-smaller
+loop-self-smaller g c =
+    let v = c.loop-self.self in
+    let m = contents_of_view v.served in
+    let i = c.loop-self.invariant in
+    let few = tail_few m v.from (beside-sym m v.served.whole) (slice_index (numbers_of v.numbers)) (slice_index (numbers_of v.queue)) v.head v.tail i.searching.search in
+    let many = ap (λ (x : Contents). length x.faces) (ap contents_of_view i.served) in
+    omega (arith, few, many, c.go_round.ensures.head)
+
+pub loop-self-preserved : goal.loop-self-preserved
+loop-self-preserved g c =
+    let i = c.loop-self.invariant in
+    record {
+      served = c.go_round.ensures.served ∙ i.served;
+      from = c.go_round.ensures.from ∙ i.from;
+      searching = c.go_round.ensures.searching;
+      grows = omega (arith, i.grows, c.go_round.ensures.grows);
+    }
+
+pub returns-clause-distances : goal.returns-clause-distances
+returns-clause-distances g c =
+    let v = c.loop-self.self in
+    let m = contents_of_view v.served in
+    let i = c.loop-self.invariant in
+    let s = i.searching in
+    let h = v.served.whole in
+    let ds = numbers_of v.numbers in
+    let number = slice_index ds in
+    let queue = slice_index (numbers_of v.queue) in
+    let within = s.search.within in
+    let head_is : v.head ≡ v.tail = omega (arith, within) in
+    let done : IsSearch m v.from number queue v.tail v.tail = subst (λ k. IsSearch m v.from number queue k v.tail) head_is s.search in
+    let few = tail_few m v.from (beside-sym m h) number queue v.head v.tail s.search in
+    let all : AreDistances m v.from ds
+    = record { long = s.numbers_long; each = λ p l. finish m v.from (beside-sym m h) (place_one m h) (known_place m h) (beside-known m h) (as_many m h) s.from_in number queue v.tail p few done l } in
+    subst (λ (x : Contents). AreDistances x c.args.self.from ds) (ap contents_of_view i.served) (subst (λ x. AreDistances m x ds) i.from all)

@@ -1,0 +1,6 @@
+pub mod Distances
+pub mod Search
+pub mod Searching
+pub mod Way
+pub mod HopWalk
+pub mod Found
