@@ -9,6 +9,8 @@ import tempfile
 TOP = os.path.dirname(os.path.dirname(os.path.abspath(__file__)))
 PROGRAM = os.path.join(TOP, "crates", "topo_cli", "out", "topo_cli")
 
+NOT_BUILT = "build the program first: ./tackcherry ask examples/triangle < examples/triangle/script.txt"
+
 EDGE_HEADER = "edge_id,start_node,end_node,next_left_edge,next_right_edge,left_face,right_face\n"
 
 
@@ -98,7 +100,7 @@ def size_of(folder):
 def measured(words, script=""):
     """Runs the built program: seconds of processor time, peak memory in bytes, exit status, bytes of output and its first line."""
     if not os.access(PROGRAM, os.X_OK):
-        sys.exit("build the program first: ./tackcherry ask examples/triangle < examples/triangle/script.txt")
+        sys.exit(NOT_BUILT)
     with tempfile.TemporaryFile() as given, tempfile.TemporaryFile() as out:
         given.write(script.encode())
         given.seek(0)
