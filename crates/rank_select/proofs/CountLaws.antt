@@ -3,12 +3,15 @@ use Rattle.std.proofs.Common.{◌≡◌, ℕ, zero, suc, ◌+◌, ◌-◌, ◌*�
 use Rattle.std.proofs.lemmas.Bool.{cases_lt}
 use Rattle.std.proofs.lemmas.List.{take_all, get_or_past, get_or_default}
 use Rattle.std.specs.Int.{bit_at, w64, div_ceil}
+use Rattle.std.proofs.lemmas.Nat.{mul-le}
 use Rattle.std.proofs.lemmas.Nat.Bits.{bit_at_not, bit_at-lt}
 use Rattle.bit_words.specs.Lists.{tabulate}
 use Rattle.bit_words.specs.Bits.{rank, word_bits, is_set, same}
 use Rattle.bit_words.proofs.Ranks.{rank-zero, rank-le, rank_more_yes, rank_more_no, rank_both, rank-le-rank}
 use Rattle.bit_words.proofs.BitLists.{length-tabulate, get_or-tabulate, tabulate_more, length-word_bits, get_or-word_bits}
-use Rattle.bit_words.proofs.DigitLaws.{digits-halved, digits-mono}
+use Rattle.bit_words.proofs.DigitLaws.{digits-half, digits-halved, digits-mono}
+use Rattle.bit_words.specs.Digits.{digits}
+use Rattle.rank_select.proofs.Selects.{same-true}
 use Rattle.rank_select.specs.Counts.{blocks, counts_of, KindChunk}
 
 pub length-counts_of : (bits : List Bool) → length (counts_of bits) ≡ blocks (length bits) + 1
@@ -93,10 +96,49 @@ pub ruleset kinds = (length-counts_of, get_or-counts_of, rank-le, zeros_before, 
 
 pub ruleset searches = (rank_blocks, some_block, rank-zero, digits-halved, digits-mono)
 
-same_true_is : (kind b : Bool) → same kind b ≡ true → b ≡ kind
-same_true_is true b e = e
-same_true_is false true e = sym e
-same_true_is false false e = refl
+-- no count is above that of all
+pub rank-le-all : (kind : Bool) (bits : List Bool) (i : ℕ) → rank kind bits i ≤ rank kind bits (length bits)
+rank-le-all kind bits i =
+    ⊎_elim
+    (λ (h : i < length bits). rank-le-rank kind bits i (length bits) (omega arith))
+    (λ (h : length bits ≤ i). let e = rank_past kind bits i h in omega arith)
+    (cases_lt i (length bits))
+
+-- twice a number has one digit more
+pub digits-double : (n : ℕ) → 1 ≤ n → digits (n * 2) ≡ digits n + 1
+digits-double n h =
+    let e : n * 2 / 2 ≡ n = omega arith in
+    omega (arith, ap digits e, digits-half (n * 2) (omega arith))
+
+-- before a block with some bit of a kind before it there is a block
+pub some_in : (kind : Bool) (bits : List Bool) (j block : ℕ) → j < rank kind bits (512 * block) → 0 < block
+some_in kind bits j block h =
+    ⊎_elim
+    (λ (p : 0 < block). p)
+    (λ (p : block ≤ 0).
+    let e : 512 * block ≡ 0 = omega arith in
+    absurd (omega (arith, ap (rank kind bits) e, rank-zero kind bits)))
+    (cases_lt 0 block)
+
+-- after the doublings up to a stride below a number, one probe more costs at most its digits
+pub stride_cost : (start steps first stride end : ℕ) → 1 ≤ first → steps + digits first ≡ start + digits stride → stride < end → steps + 1 ≤ start + digits end
+stride_cost start steps first stride end some doubled below = omega (arith, digits-half first (omega arith), digits-mono stride end (omega arith))
+
+pub ruleset strides = (rank_blocks, rank-zero, digits-double, some_block)
+
+-- the product that a share is taken of
+pub product_fits : (count len : ℕ) → count ≤ len → len ≤ 2147483647 → count * len ≤ 2147483647 * 2147483647
+product_fits count len h l = mul-le count len 2147483647 2147483647 (omega arith) l
+
+pub ruleset shares = (product_fits)
+
+-- the blocks have a digit less than the bits and two
+pub block_digits : (n : ℕ) → digits (blocks n) + 1 ≤ digits (n + 2)
+block_digits n = digits-halved (blocks n) (n + 2) (omega arith) (omega arith)
+
+pub ruleset selects_all = (block_digits)
+
+pub ruleset nearer = (rank-le, rank-le-all, some_block)
 
 same_false_is : (kind b : Bool) → same kind b ≡ false → b ≡ not kind
 same_false_is true b e = e
@@ -117,7 +159,7 @@ module _ (kind : Bool) (bits : List Bool) (word chunk : ℕ) (agrees : KindChunk
       let s : get_or (word_bits chunk) m false ≡ same kind b = get_or-word_bits chunk m false (omega arith) ∙ agrees.agree m (omega arith) within in
       let P : Bool → Type 0 = λ v. same kind b ≡ v → rank kind bits (i + 1) ≡ rank kind bits (64 * word) + rank true (word_bits chunk) (m + 1) in
       let at : (v : Bool) → P v = λ v. elim v as P [
-        | true ↦ λ t. omega (arith, r, rank_more_yes kind bits i false within (same_true_is kind b t), rank_more_yes true (word_bits chunk) m false within' (s ∙ t))
+        | true ↦ λ t. omega (arith, r, rank_more_yes kind bits i false within (same-true kind b t), rank_more_yes true (word_bits chunk) m false within' (s ∙ t))
         | false ↦ λ t. omega (arith, r, rank_more_no kind bits i false within (same_false_is kind b t), rank_more_no true (word_bits chunk) m false within' (s ∙ t))
       ] in
       rw (e, e') (at (same kind b) refl)
@@ -146,7 +188,7 @@ module _ (kind : Bool) (bits : List Bool) (word chunk : ℕ) (agrees : KindChunk
         let within = within_list p (omega arith) (omega arith) in
         let s : get_or (word_bits chunk) p false ≡ same kind (get_or bits (64 * word + p) false) = get_or-word_bits chunk p false h ∙ agrees.agree p h within in (
           within,
-          get_or_default bits (64 * word + p) (not kind) false within ∙ same_true_is kind (get_or bits (64 * word + p) false) (sym s ∙ t),
+          get_or_default bits (64 * word + p) (not kind) false within ∙ same-true kind (get_or bits (64 * word + p) false) (sym s ∙ t),
           omega (arith, kind_of_chunk p (omega arith) (omega arith)),
         )
 
@@ -175,14 +217,6 @@ chunk_false bits word chunk small h = record {
     flipped zero h = refl
     flipped (suc zero) h = refl
     flipped (suc (suc x)) h = absurd (omega arith)
-
--- no count is above that of all
-pub rank-le-all : (kind : Bool) (bits : List Bool) (i : ℕ) → rank kind bits i ≤ rank kind bits (length bits)
-rank-le-all kind bits i =
-    ⊎_elim
-    (λ (h : i < length bits). rank-le-rank kind bits i (length bits) (omega arith))
-    (λ (h : length bits ≤ i). let e = rank_past kind bits i h in omega arith)
-    (cases_lt i (length bits))
 
 -- after the last word of a block, the block is counted
 pub block_end : (kind : Bool) (bits : List Bool) (block word : ℕ) → min (div_ceil (length bits) 64) (8 * block + 8) ≤ word → word ≤ 8 * block + 8 → rank kind bits (512 * (block + 1)) ≤ rank kind bits (64 * word)

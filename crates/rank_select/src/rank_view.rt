@@ -20,6 +20,14 @@ fn place_below(word: u64, j: u32) -> u32
     }
 }
 
+/// Blocks between which a bit is: before `low` there are at most as many bits of its kind as before it, and before
+/// `high` more.
+#[derive(Clone, Copy)]
+struct Bracket {
+    low: usize,
+    high: usize,
+}
+
 /// Bits with the count of the ones before each block of 512 bits, so that a count reads at most nine words.
 #[derive(Clone, Copy)]
 pub struct RankView<'a> {
@@ -31,12 +39,12 @@ pub struct RankView<'a> {
 }
 
 impl<'a> RankView<'a> {
-    ghost use Rattle.std.specs.Prelude.{◌≡◌, ◌<◌, ◌≤◌, ◌+◌, ◌*◌, ◌^◌, length, true, false};
+    ghost use Rattle.std.specs.Prelude.{◌≡◌, ◌<◌, ◌≤◌, ◌+◌, ◌-◌, ◌*◌, ◌/◌, ◌^◌, length, min, true, false};
     ghost use Rattle.bit_words.specs.BitView.{bits_of};
     ghost use Rattle.bit_words.specs.PackedView.{fields_of, width_of};
     ghost use Rattle.bit_words.specs.Bits.{rank, IsSelected};
     ghost use Rattle.bit_words.specs.Digits.{digits};
-    ghost use Rattle.rank_select.specs.Counts.{blocks, counts_of, KindChunk};
+    ghost use Rattle.rank_select.specs.Counts.{blocks, counts_of, KindChunk, Brackets};
     ghost use Rattle.rank_select.specs.RankView.{counted};
 
     /// The bits with these counts, which `make_counts` makes and `check_counts` finds right.
@@ -103,18 +111,99 @@ impl<'a> RankView<'a> {
         }
     }
 
-    /// The last block that has at most `j` bits of this kind before it.
+    /// About how many blocks have `count` bits of a kind, where all blocks have `all` of it, and fewer than there are.
+    #[inline]
+    #[tactic(auto, using(crate::proofs::CountLaws::shares))]
+    fn blocks_for(&self, count: usize, all: usize) -> usize
+        requires some { 0 < all }
+        requires few { count ≤ length (counted self.now) }
+        requires blocks { 0 < length (counted self.now) }
+        ensures share { result ≡ min (count * length (counted self.now) / all / 512) (blocks (length (counted self.now)) - 1) }
+    {
+        let len = self.bits.len();
+        (count * len / all / 512).min(len.div_ceil(512) - 1)
+    }
+
+    /// A bracket of the block of bit `j` of this kind, from block `block` upward by strides that double.
+    #[tactic(auto, using(crate::proofs::CountLaws::strides))]
+    fn bracket_above<C: Ledger>(
+        &self,
+        kind: bool,
+        j: usize,
+        block: usize,
+        first: usize,
+        steps: &mut Steps<C>,
+    ) -> Bracket
+        requires within { block < blocks (length (counted self.now)) }
+        requires low { rank kind (counted self.now) (512 * block) ≤ j }
+        requires some { j < rank kind (counted self.now) (length (counted self.now)) }
+        requires stride { 1 ≤ first }
+        ensures bracket { Brackets kind (counted self.now) j result.low result.high }
+        ensures grows { steps.old ≤ steps.new }
+        ensures cost { steps.new ≤ steps.old + digits (blocks (length (counted self.now))) }
+    {
+        let end = self.bits.len().div_ceil(512);
+        let mut low = block;
+        let mut stride = first;
+        while stride < end - low {
+            let high = low + stride;
+            if j < self.kind_before(kind, high, steps) {
+                return Bracket { low, high };
+            }
+            low = high;
+            stride *= 2;
+        }
+        Bracket { low, high: end }
+    }
+
+    /// A bracket of the block of bit `j` of this kind, from block `block` downward by strides that double.
+    #[tactic(auto, using(crate::proofs::CountLaws::strides))]
+    fn bracket_below<C: Ledger>(
+        &self,
+        kind: bool,
+        j: usize,
+        block: usize,
+        first: usize,
+        steps: &mut Steps<C>,
+    ) -> Bracket
+        requires within { block ≤ blocks (length (counted self.now)) }
+        requires high { j < rank kind (counted self.now) (512 * block) }
+        requires stride { 1 ≤ first }
+        ensures bracket { Brackets kind (counted self.now) j result.low result.high }
+        ensures grows { steps.old ≤ steps.new }
+        ensures cost { steps.new ≤ steps.old + digits (blocks (length (counted self.now))) }
+    {
+        let mut high = block;
+        let mut stride = first;
+        while stride < high {
+            let low = high - stride;
+            if self.kind_before(kind, low, steps) <= j {
+                return Bracket { low, high };
+            }
+            high = low;
+            stride *= 2;
+        }
+        Bracket { low: 0, high }
+    }
+
+    /// The block in a bracket that has bit `j` of this kind, by halving.
     #[tactic(auto, using(crate::proofs::CountLaws::searches))]
-    fn block_of<C: Ledger>(&self, kind: bool, j: usize, steps: &mut Steps<C>) -> usize
-        requires { j < rank kind (counted self.now) (length (counted self.now)) }
+    fn block_in<C: Ledger>(
+        &self,
+        kind: bool,
+        j: usize,
+        bracket: Bracket,
+        steps: &mut Steps<C>,
+    ) -> usize
+        requires bracket { Brackets kind (counted self.now) j bracket.low bracket.high }
         ensures within { result < blocks (length (counted self.now)) }
         ensures low { rank kind (counted self.now) (512 * result) ≤ j }
         ensures high { j < rank kind (counted self.now) (512 * (result + 1)) }
         ensures grows { steps.old ≤ steps.new }
-        ensures cost { steps.new ≤ steps.old + digits (length (counted self.now)) }
+        ensures cost { steps.new ≤ steps.old + digits (blocks (length (counted self.now))) }
     {
-        let mut low = 0;
-        let mut high = self.bits.len().div_ceil(512);
+        let mut low = bracket.low;
+        let mut high = bracket.high;
         while high - low > 1 {
             let middle = low + (high - low) / 2;
             if self.kind_before(kind, middle, steps) <= j {
@@ -124,6 +213,75 @@ impl<'a> RankView<'a> {
             }
         }
         low
+    }
+
+    /// Block `block`, which has `before` bits of a kind before it, moved by `away` blocks toward that of bit `j`.
+    #[inline]
+    #[tactic(auto, using(crate::proofs::CountLaws::nearer))]
+    fn moved_block(&self, block: usize, before: usize, j: usize, away: usize) -> usize
+        requires within { block < blocks (length (counted self.now)) }
+        requires near { away < blocks (length (counted self.now)) }
+        ensures within { result < blocks (length (counted self.now)) }
+    {
+        if before <= j {
+            (block + away).min(self.bits.len().div_ceil(512) - 1)
+        } else {
+            block.saturating_sub(away)
+        }
+    }
+
+    /// A bracket of the block of bit `j` of this kind, from block `block`, which has `before` of it before it,
+    /// toward that bit by strides that double.
+    fn bracket_from<C: Ledger>(
+        &self,
+        kind: bool,
+        j: usize,
+        block: usize,
+        before: usize,
+        first: usize,
+        steps: &mut Steps<C>,
+    ) -> Bracket
+        requires within { block < blocks (length (counted self.now)) }
+        requires before { before ≡ rank kind (counted self.now) (512 * block) }
+        requires some { j < rank kind (counted self.now) (length (counted self.now)) }
+        requires stride { 1 ≤ first }
+        ensures bracket { Brackets kind (counted self.now) j result.low result.high }
+        ensures grows { steps.old ≤ steps.new }
+        ensures cost { steps.new ≤ steps.old + digits (blocks (length (counted self.now))) }
+    {
+        if before <= j {
+            self.bracket_above(kind, j, block, first, steps)
+        } else {
+            self.bracket_below(kind, j, block, first, steps)
+        }
+    }
+
+    /// A bracket of the block of bit `j` of this kind, of which there are `all`: from the block that an even share
+    /// suggests, moved once where its count says that the bit is further off.
+    #[tactic(auto, using(crate::proofs::CountLaws::nearer))]
+    fn bracket_of<C: Ledger>(
+        &self,
+        kind: bool,
+        j: usize,
+        all: usize,
+        steps: &mut Steps<C>,
+    ) -> Bracket
+        requires all { all ≡ rank kind (counted self.now) (length (counted self.now)) }
+        requires some { j < all }
+        ensures bracket { Brackets kind (counted self.now) j result.low result.high }
+        ensures grows { steps.old ≤ steps.new }
+        ensures cost { steps.new ≤ steps.old + digits (blocks (length (counted self.now))) + 2 }
+    {
+        let block = self.blocks_for(j, all);
+        let before = self.kind_before(kind, block, steps);
+        let away = self.blocks_for(j.abs_diff(before), all);
+        if away == 0 {
+            return self.bracket_from(kind, j, block, before, 1, steps);
+        }
+        let nearer = self.moved_block(block, before, j, away);
+        let before = self.kind_before(kind, nearer, steps);
+        let first = self.blocks_for(j.abs_diff(before), all) + 1;
+        self.bracket_from(kind, j, nearer, before, first, steps)
     }
 
     /// The word that has a 1 where a bit is of this kind, by one step.
@@ -178,21 +336,24 @@ impl<'a> RankView<'a> {
     }
 
     /// The place of the bit of this kind that has `j` of its kind before it, or None where there is none.
+    #[tactic(auto, using(crate::proofs::CountLaws::searches))]
     fn select<C: Ledger>(&self, kind: bool, j: usize, steps: &mut Steps<C>) -> Option<usize>
         ensures selected { IsSelected kind (counted self.now) j result }
         ensures some_steps { steps.old + 1 ≤ steps.new }
-        ensures cost { steps.new ≤ steps.old + digits (length (counted self.now)) + 10 }
+        ensures cost { steps.new ≤ steps.old + 2 * digits (blocks (length (counted self.now))) + 12 }
     {
-        if self.all_of_kind(kind, steps) <= j {
+        let all = self.all_of_kind(kind, steps);
+        if all <= j {
             return None;
         }
-        let block = self.block_of(kind, j, steps);
+        let bracket = self.bracket_of(kind, j, all, steps);
+        let block = self.block_in(kind, j, bracket, steps);
         let before = self.kind_before(kind, block, steps);
         Some(self.select_in(kind, j, block, before, steps))
     }
 
     /// The place of the one with `j` ones before it, or None where there are at most `j` ones.
-    #[tactic(auto, using(crate::proofs::CountLaws::searches))]
+    #[tactic(auto, using(crate::proofs::CountLaws::selects_all))]
     pub fn select1<C: Ledger>(&self, j: usize, steps: &mut Steps<C>) -> Option<usize>
         ensures selected { IsSelected true (counted self.now) j result }
         ensures some_steps { steps.old + 1 ≤ steps.new }
@@ -202,7 +363,7 @@ impl<'a> RankView<'a> {
     }
 
     /// The place of the zero with `j` zeros before it, or None where there are at most `j` zeros.
-    #[tactic(auto, using(crate::proofs::CountLaws::searches))]
+    #[tactic(auto, using(crate::proofs::CountLaws::selects_all))]
     pub fn select0<C: Ledger>(&self, j: usize, steps: &mut Steps<C>) -> Option<usize>
         ensures selected { IsSelected false (counted self.now) j result }
         ensures some_steps { steps.old + 1 ≤ steps.new }

@@ -3,7 +3,7 @@ use Rattle.bit_words.specs.Bits.{rank}
 use Rattle.bit_words.specs.Digits.{digits}
 use Rattle.rank_select.specs.Counts.{blocks}
 use Rattle.rank_select.specs.RankView.{counted}
-use Rattle.rank_select.proofs.rank_view.RankView.block_of.Given as goal
+use Rattle.rank_select.proofs.rank_view.RankView.block_in.Given as goal
 
 abbrev pub invariant-loop-high : goal.invariant-loop-high
 invariant-loop-high g l = record {
