@@ -88,7 +88,7 @@ fn count_edges(
 /// The components of a rotation, and how many nodes, edges and rings each has, by its number.
 #[derive(Drop)]
 pub struct EulerCounts<'a> {
-    pub rotation: &'a Rotation,
+    pub rotation: &'a Rotation<'a>,
     pub components: &'a Numbering,
     pub nodes: Vec<u32>,
     pub edges: Vec<u32>,
@@ -107,7 +107,7 @@ impl<'a> EulerCounts<'a> {
     /// The counts of each component of a rotation.
     pub fn of_components(
         alloc: Global,
-        rotation: &'a Rotation,
+        rotation: &'a Rotation<'a>,
         rings: &Numbering,
         components: &'a Numbering,
     ) -> Result<Self, AllocError>

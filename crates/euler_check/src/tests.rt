@@ -131,15 +131,12 @@ fn tables(
     })
 }
 
-fn checked(
+fn checked<'a>(
     alloc: Global,
-    nodes: &[Node],
-    edges: &[Edge],
-    faces: &[IdNumber],
-) -> Result<Result<Rotation, CheckFault>, Fail> {
-    let tables = tables(alloc, nodes, edges, faces)?;
-    if are_in_range(&tables) {
-        Ok(check(alloc, &tables))
+    tables: &'a Tables,
+) -> Result<Result<Rotation<'a>, CheckFault>, Fail> {
+    if are_in_range(tables) {
+        Ok(check(alloc, tables))
     } else {
         Err(Fail::new("a number that is out of range"))
     }
@@ -206,7 +203,8 @@ fn part_numbers(
 
 #[test]
 fn a_triangle_has_two_rings_and_one_component(rt: HostRuntime) -> Result<(), Fail> {
-    let rotation = checked(rt.alloc(), &NODES, &TRIANGLE, &[0, 1])??;
+    let given = tables(rt.alloc(), &NODES, &TRIANGLE, &[0, 1])?;
+    let rotation = checked(rt.alloc(), &given)??;
     assert_eq!(rt; first_mixed_ring(&rotation), None);
     has_parts(
         &rt,
@@ -227,7 +225,8 @@ fn parts_are_numbered_by_their_first_darts(rt: HostRuntime) -> Result<(), Fail> 
         (1, (1, 2), (2, -3), (1, 0)),
         (2, (2, 3), (3, -1), (1, 0)),
     ];
-    let rotation = checked(rt.alloc(), &nodes, &edges, &[1, 2])??;
+    let given = tables(rt.alloc(), &nodes, &edges, &[1, 2])?;
+    let rotation = checked(rt.alloc(), &given)??;
     assert_eq!(rt; first_mixed_ring(&rotation), None);
     has_parts(
         &rt,
@@ -240,16 +239,18 @@ fn parts_are_numbered_by_their_first_darts(rt: HostRuntime) -> Result<(), Fail> 
 
 #[test]
 fn an_open_edge_has_one_ring_and_a_map_without_edges_none(rt: HostRuntime) -> Result<(), Fail> {
-    let rotation = checked(
+    let given = tables(
         rt.alloc(),
         &NODES[..2],
         &[(7, (1, 2), (-7, 7), (0, 0))],
         &[],
-    )??;
+    )?;
+    let rotation = checked(rt.alloc(), &given)??;
     has_parts(&rt, rt.alloc(), &rotation, (1, &[0, 0]), (1, &[0, 0]))?;
     let found = parts(rt.alloc(), &rotation)?;
     assert_eq!(rt; (found.rings(), found.components()), (1, 1));
-    let empty = checked(rt.alloc(), &[], &[], &[])??;
+    let nothing = tables(rt.alloc(), &[], &[], &[])?;
+    let empty = checked(rt.alloc(), &nothing)??;
     assert_eq!(rt; first_mixed_ring(&empty), None);
     has_parts(&rt, rt.alloc(), &empty, (0, &[]), (0, &[]))?;
     let found = parts(rt.alloc(), &empty)?;
@@ -275,7 +276,8 @@ fn two_triangles_have_four_rings_and_two_components(rt: HostRuntime) -> Result<(
         (5, (5, 6), (6, -4), (2, 0)),
         (6, (6, 4), (4, -5), (2, 0)),
     ];
-    let rotation = checked(rt.alloc(), &nodes, &edges, &[0, 1, 2])??;
+    let given = tables(rt.alloc(), &nodes, &edges, &[0, 1, 2])?;
+    let rotation = checked(rt.alloc(), &given)??;
     let found = parts(rt.alloc(), &rotation)?;
     assert_eq!(rt; (found.rings(), found.components()), (4, 2));
     let (rings, components) = part_numbers(rt.alloc(), &rotation, &found)?;
@@ -289,7 +291,8 @@ fn two_triangles_have_four_rings_and_two_components(rt: HostRuntime) -> Result<(
 #[test]
 fn an_isolated_node_is_in_no_component(rt: HostRuntime) -> Result<(), Fail> {
     let nodes = [(1, None), (5, Some(1)), (2, None), (3, None)];
-    let rotation = checked(rt.alloc(), &nodes, &TRIANGLE, &[1])??;
+    let given = tables(rt.alloc(), &nodes, &TRIANGLE, &[1])?;
+    let rotation = checked(rt.alloc(), &given)??;
     let found = parts(rt.alloc(), &rotation)?;
     assert_eq!(rt; (found.rings(), found.components()), (2, 1));
     Ok(())
@@ -298,7 +301,8 @@ fn an_isolated_node_is_in_no_component(rt: HostRuntime) -> Result<(), Fail> {
 #[test]
 fn two_closed_edges_that_cross_at_their_node_are_refused(rt: HostRuntime) -> Result<(), Fail> {
     let edges = [(1, (1, 1), (-2, 2), (0, 0)), (2, (1, 1), (1, -1), (0, 0))];
-    let rotation = checked(rt.alloc(), &[(1, None)], &edges, &[])??;
+    let given = tables(rt.alloc(), &[(1, None)], &edges, &[])?;
+    let rotation = checked(rt.alloc(), &given)??;
     assert_eq!(rt;
         parts(rt.alloc(), &rotation).err(),
         Some(not_plane(1, 1, 2, 1))
@@ -313,7 +317,8 @@ fn three_edges_between_two_nodes_on_a_torus_are_refused(rt: HostRuntime) -> Resu
         (2, (1, 2), (-3, 3), (0, 0)),
         (3, (1, 2), (-1, 1), (0, 0)),
     ];
-    let rotation = checked(rt.alloc(), &NODES[..2], &edges, &[])??;
+    let given = tables(rt.alloc(), &NODES[..2], &edges, &[])?;
+    let rotation = checked(rt.alloc(), &given)??;
     assert_eq!(rt;
         parts(rt.alloc(), &rotation).err(),
         Some(not_plane(1, 2, 3, 1))
@@ -331,7 +336,8 @@ fn the_second_of_two_components_is_refused(rt: HostRuntime) -> Result<(), Fail> 
         (4, (4, 4), (-5, 5), (0, 0)),
         (5, (4, 4), (4, -4), (0, 0)),
     ];
-    let rotation = checked(rt.alloc(), &nodes, &edges, &[1])??;
+    let given = tables(rt.alloc(), &nodes, &edges, &[1])?;
+    let rotation = checked(rt.alloc(), &given)??;
     assert_eq!(rt;
         parts(rt.alloc(), &rotation).err(),
         Some(not_plane(4, 1, 2, 1))
@@ -351,7 +357,8 @@ fn of_two_components_that_are_not_plane_the_least_edge_is_named(
         (4, (2, 3), (-5, 5), (0, 0)),
         (5, (2, 3), (-6, 6), (0, 0)),
     ];
-    let rotation = checked(rt.alloc(), &NODES, &edges, &[])??;
+    let given = tables(rt.alloc(), &NODES, &edges, &[])?;
+    let rotation = checked(rt.alloc(), &given)??;
     assert_eq!(rt;
         parts(rt.alloc(), &rotation).err(),
         Some(not_plane(4, 2, 3, 1))
@@ -364,7 +371,8 @@ fn a_ring_with_two_faces_is_refused_before_a_component_that_is_not_plane(
     rt: HostRuntime,
 ) -> Result<(), Fail> {
     let edges = [(1, (1, 1), (-2, 2), (0, 0)), (2, (1, 1), (1, -1), (0, 1))];
-    let rotation = checked(rt.alloc(), &[(1, None)], &edges, &[1])??;
+    let given = tables(rt.alloc(), &[(1, None)], &edges, &[1])?;
+    let rotation = checked(rt.alloc(), &given)??;
     assert_eq!(rt;
         parts(rt.alloc(), &rotation).err(),
         Some(CheckFault::Refused(Refusal::MixedRing { edge: 1, next: -2 }))
@@ -379,7 +387,8 @@ fn a_ring_with_one_wrong_side_is_refused(rt: HostRuntime) -> Result<(), Fail> {
         (2, (2, 3), (3, -1), (0, 0)),
         (3, (3, 1), (1, -2), (1, 0)),
     ];
-    let rotation = checked(rt.alloc(), &NODES, &edges, &[0, 1])??;
+    let given = tables(rt.alloc(), &NODES, &edges, &[0, 1])?;
+    let rotation = checked(rt.alloc(), &given)??;
     assert_eq!(rt;
         first_mixed_ring(&rotation),
         Some(Refusal::MixedRing { edge: 1, next: 2 })

@@ -19,7 +19,11 @@ fn said(alloc: Global, ids: &[IdNumber], asked: [IdNumber; 6]) -> Result<Said, A
 
 #[test]
 fn dense_ids_have_their_first_rows(rt: HostRuntime) -> Result<(), Fail> {
-    let nothing = said(rt.alloc(), &[], [0, 1, 2, 1023, 1024, 4_294_967_295])?;
+    let nothing = said(
+        rt.alloc(),
+        &[],
+        [0, 1, 2, 1023, 1024, 18_446_744_073_709_551_615],
+    )?;
     assert_eq!(rt; nothing, ([None; 6], None));
     let digits = said(
         rt.alloc(),
@@ -30,7 +34,11 @@ fn dense_ids_have_their_first_rows(rt: HostRuntime) -> Result<(), Fail> {
         digits,
         ([Some(0), Some(1), Some(4), Some(7), None, None], Some(1))
     );
-    let distinct = said(rt.alloc(), &[6, 0, 28], [0, 6, 28, 27, 29, 4_294_967_295])?;
+    let distinct = said(
+        rt.alloc(),
+        &[6, 0, 28],
+        [0, 6, 28, 27, 29, 18_446_744_073_709_551_615],
+    )?;
     assert_eq!(rt;
         distinct,
         ([Some(1), Some(0), Some(2), None, None, None], None)
@@ -52,14 +60,14 @@ fn sparse_ids_have_their_first_rows(rt: HostRuntime) -> Result<(), Fail> {
     );
     let greatest = said(
         rt.alloc(),
-        &[4_294_967_295, 0, 4_294_967_294],
+        &[18_446_744_073_709_551_615, 0, 18_446_744_073_709_551_614],
         [
             0,
-            4_294_967_294,
-            4_294_967_295,
+            18_446_744_073_709_551_614,
+            18_446_744_073_709_551_615,
             1,
-            4_294_967_293,
-            2_147_483_648,
+            18_446_744_073_709_551_613,
+            9_223_372_036_854_775_807,
         ],
     )?;
     assert_eq!(rt;
@@ -88,12 +96,12 @@ const MANY: u32 = 100_000;
 
 /// Each multiple below `MANY` times `apart`, in mixed order: in a row that of the remainder of 7 times the row and 3.
 fn mixed_ids(alloc: Global, apart: IdNumber) -> Result<Vec<IdNumber>, AllocError>
-    requires { apart ≤ 40000 }
+    requires { apart ≤ 90000000000000 }
     ensures { IfOk result (λ ids. vec_len ids ≡ 100000) }
 {
     let mut ids = Vec::new(alloc);
     for row in 0..MANY {
-        ids.push((7 * row + 3) % MANY * apart)?;
+        ids.push(IdNumber::from((7 * row + 3) % MANY) * apart)?;
     }
     Ok(ids)
 }
@@ -107,17 +115,18 @@ fn row_of_multiple(number: u32) -> u32
 
 /// How many of the ids have their row in the index, and how many that stand beside them have none.
 fn found(alloc: Global, apart: IdNumber) -> Result<(u32, u32), AllocError>
-    requires { apart ≤ 40000 }
+    requires { apart ≤ 90000000000000 }
 {
     let ids = mixed_ids(alloc, apart)?;
     let index = IdIndex::new(alloc, &ids)?;
     let mut right = 0;
     let mut missing = 0;
     for number in 0..MANY {
-        if index.row_of(number * apart) == Some(row_of_multiple(number)) {
+        let multiple = IdNumber::from(number) * apart;
+        if index.row_of(multiple) == Some(row_of_multiple(number)) {
             right += 1;
         }
-        if index.row_of(number * apart + 1).is_none() {
+        if index.row_of(multiple + 1).is_none() {
             missing += 1;
         }
     }
@@ -127,7 +136,7 @@ fn found(alloc: Global, apart: IdNumber) -> Result<(u32, u32), AllocError>
 #[test]
 fn long_lists_are_asked_in_full(rt: HostRuntime) -> Result<(), Fail> {
     assert_eq!(rt; found(rt.alloc(), 1)?, (100_000, 1));
-    for apart in [2, 4, 5, 40_000] {
+    for apart in [2, 4, 5, 40_000, 90_000_000_000_000] {
         assert_eq!(rt;
             found(rt.alloc(), apart)?,
             (100_000, 100_000),

@@ -1,9 +1,9 @@
 -- What was collected and sorted are the rings of the round.
-use Rattle.std.proofs.Common.{◌≡◌, ℕ, zero, suc, ◌<◌, inl, inr, Bool, true, false, ◌||◌, ◌==◌, List, [], ◌∷◌, length, refl, sym, subst, arith, eq-eqb}
+use Rattle.std.proofs.Common.{◌≡◌, ℕ, zero, suc, ◌<◌, inl, inr, Bool, true, false, ◌==◌, List, [], ◌∷◌, length, refl, sym, subst, arith, eq-eqb}
 use Rattle.std.specs.Prelude.{slice_index, slice_index_or, flat_map}
 use Rattle.std.specs.List.{filter, Contains, AllPairs}
 use Rattle.std.specs.List.Sorted.{IsStrictlyIncreasing}
-use Rattle.std.proofs.lemmas.Bool.{eqb-true, or_cases, cases_Bool, or_left, or_right, both_ways, not-true}
+use Rattle.std.proofs.lemmas.Bool.{eqb-true, or_cases, or_left, or_right, both_ways, not-true}
 use Rattle.std.proofs.lemmas.List.Kept.{AllPairs-from_increasing}
 use Rattle.orbits.proofs.Lists.{in_filter, from_filter}
 use Rattle.orbits.proofs.Numbers.{same_numbers}

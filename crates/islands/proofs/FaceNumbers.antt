@@ -5,7 +5,7 @@ use Rattle.std.specs.List.{list_all}
 use Rattle.std.specs.List.Sorted.{IsBinarySearchResult}
 use Rattle.std.specs.Ordering.{nat_cmp}
 use Rattle.std.specs.Prelude.{MatchResult}
-use Rattle.std.proofs.lemmas.Bool.{and_parts, and_from, cases_Bool, cases_lt, both_ways, not-true}
+use Rattle.std.proofs.lemmas.Bool.{and_parts, and_from, cases_Bool, cases_lt}
 use Rattle.std.proofs.lemmas.Bool.Decides.{nat_tests}
 use Rattle.std.proofs.lemmas.List.{take_more, map-append, get_or_default}
 use Rattle.std.proofs.lemmas.List.Sorted.{searched}
@@ -32,20 +32,6 @@ put_zero (x ∷ xs) = rw (zero_least x) refl
 pub rising_zero : (xs : List ℕ) → rising (0 ∷ xs) ≡ 0 ∷ rising xs
 unfolding rising
 rising_zero xs = put_zero (rising xs)
-
--- each number is at least its place, above what is below them all
-place_above : (b : ℕ) (xs : List ℕ) → list_all (nat_le b) xs ≡ true → is_strictly_rising xs ≡ true → (k : ℕ) → k < length xs → b + k ≤ get_or xs k 0
-place_above b [] low rises k h = absurd (omega arith)
-place_above b (x ∷ xs) low rises zero h = let parts = and_parts (nat_le b x) (list_all (nat_le b) xs) low in let first = parts.0 in grind (arith, nat_tests)
-place_above b (x ∷ xs) low rises (suc k) h =
-    let first = (and_parts (nat_le b x) (list_all (nat_le b) xs) low).0 in
-    let parts = and_parts (list_all (nat_lt x) xs) (is_strictly_rising xs) rises in
-    let le : b ≤ x = grind (arith, nat_tests) in
-    let more = place_above (suc x) xs (all_from (nat_le (suc x)) xs (λ y on. let lt = among (nat_lt x) xs y parts.0 on in grind (arith, nat_tests))) parts.1 k (omega arith) in
-    omega arith
-
-pub place_below : (xs : List ℕ) → is_strictly_rising xs ≡ true → (k : ℕ) → k < length xs → k ≤ get_or xs k 0
-place_below xs rises k h = let it = place_above 0 xs (all_from (nat_le 0) xs (λ y on. zero_least y)) rises k h in omega arith
 
 -- what a search among rising ids finds
 pub found_at : (xs : List ℕ) (x : ℕ) (r : Result ℕ ℕ) → is_strictly_rising xs ≡ true → IsBinarySearchResult (λ y. nat_cmp y x) xs r → MatchResult r (λ i. (i < length xs) × (get_or xs i 0 ≡ x)) (λ i. (i ≤ length xs) × ((k : ℕ) → k < i → get_or xs k 0 < x) × ((k : ℕ) → i ≤ k → k < length xs → x < get_or xs k 0))

@@ -17,8 +17,8 @@ use Rattle.plane_model.specs.Faces.{is_reached, is_on_ring, is_placed, outer_rin
 use Rattle.plane_model.specs.Faults.{unless, unplaced, bare_face, face_cycle, placement_fault}
 use Rattle.plane_model.proofs.Alone.{signed-alone, rings-alone, component-alone, components-alone, outer-alone}
 use Rattle.plane_model.proofs.AllFaults.{none-placement_fault}
-use Rattle.rotation_check.specs.Darts.{RotationRows}
-use Rattle.islands.specs.Placed.{AreFacesOf, map_with_faces, rows_with_faces, rotation_rows}
+use Rattle.rotation_check.specs.Darts.{RotationRows, rotation_rows}
+use Rattle.islands.specs.Placed.{AreFacesOf, map_with_faces, rows_with_faces}
 
 any-ext : (p q : ℤ → Bool) → ((x : ℤ) → p x ≡ q x) → (xs : List ℤ) → list_any p xs ≡ list_any q xs
 any-ext p q same [] = refl

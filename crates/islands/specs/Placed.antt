@@ -16,10 +16,6 @@ rows_with_faces r faces = record { nodes = r.nodes; edges = r.edges; faces = fac
 abbrev pub map_with_faces : RotationRows → List FaceRow → PlaneMap
 map_with_faces r faces = map_of (rows_with_faces r faces)
 
--- the rows of nodes and edges
-abbrev pub rotation_rows : Rows → RotationRows
-rotation_rows t = record { nodes = t.nodes; edges = t.edges }
-
 -- ids of faces are distinct, and each face beside an edge is 0 or has a row
 pub record AreFacesOf (r : RotationRows) (faces : List FaceRow) : Type 0 where
   pub distinct : IsTrue (is_distinct (map (λ f. f.id) faces))

@@ -6,7 +6,8 @@ ghost use Rattle.plane_model.specs.PlaneMap.{map_of};
 ghost use Rattle.plane_model.specs.Rotation.{is_rotation_system};
 ghost use Rattle.plane_model.specs.Faces.{is_placed, outer_rings};
 ghost use Rattle.plane_model.specs.Faults.{placement_fault};
-ghost use Rattle.islands.specs.Placed.{AreFacesOf, map_with_faces, rotation_rows};
+ghost use Rattle.rotation_check.specs.Darts.{rotation_rows};
+ghost use Rattle.islands.specs.Placed.{AreFacesOf, map_with_faces};
 
 /// What is asked of a face table holds in a rotation system, and where components are depends on edges and faces alone.
 pub fn other_tables()

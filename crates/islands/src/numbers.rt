@@ -44,8 +44,12 @@ fn face_ids(alloc: Global, faces: &[FaceRow]) -> Result<Vec<IdNumber>, AllocErro
     Ok(rising_ids(ids))
 }
 
+/// How many faces can be numbered.
+const FACE_NUMBERS: usize = 4_294_967_296;
+
 /// The number of a face: its place among the ids.
 fn face_number(ids: &[IdNumber], face: IdNumber) -> u32
+    requires few { length ids.now ≤ 2 ^ 32 }
     requires rising { IsTrue (is_strictly_rising ids.now) }
     requires there { IsTrue (has ids.now face) }
     ensures within { result < length ids.now }
@@ -64,6 +68,7 @@ fn face_numbers(
     ids: &[IdNumber],
     darts: &[u32],
 ) -> Result<Vec<u32>, AllocError>
+    requires few { length ids.now ≤ 2 ^ 32 }
     requires rising { IsTrue (is_strictly_rising ids.now) }
     requires within { (k : ℕ) → k < length darts.now → slice_index darts.now k < 2 * length rotation.now.edges }
     requires there { (k : ℕ) → k < length darts.now → IsTrue (has ids.now (side (map_of_rotation rotation.now) (signed_edge rotation.now.edges (slice_index darts.now k)))) }
@@ -90,7 +95,8 @@ fn component_numbers(alloc: Global, parts: &Parts, darts: &[u32]) -> Result<Vec<
     Ok(numbers)
 }
 
-/// Numbers the rings, faces and components of a rotation with faces.
+/// Numbers the rings, faces and components of a rotation with faces. More faces than there are numbers for are want of
+/// memory.
 pub fn number_map(
     alloc: Global,
     rotation: &Rotation,
@@ -105,6 +111,9 @@ pub fn number_map(
 {
     let LeastDarts { rings, components } = least_darts(alloc, rotation, parts)?;
     let face_ids = face_ids(alloc, faces)?;
+    if face_ids.len() > FACE_NUMBERS {
+        return Err(AllocError);
+    }
     let face_of = face_numbers(alloc, rotation, &face_ids, &rings)?;
     let component_of = component_numbers(alloc, parts, &rings)?;
     Ok(NumberedMap {

@@ -88,7 +88,7 @@ impl Place {
         requires column { self.column ≤ 1000 }
         ensures { result ≡ node_id n self }
     {
-        1 + self.row * (n + 1) + self.column
+        IdNumber::from(1 + self.row * (n + 1) + self.column)
     }
 
     /// The id of the edge to the east.
@@ -98,7 +98,7 @@ impl Place {
         requires column { self.column ≤ 1000 }
         ensures { result ≡ east_id n self }
     {
-        1 + self.row * n + self.column
+        IdNumber::from(1 + self.row * n + self.column)
     }
 
     /// The id of the edge to the north.
@@ -108,7 +108,7 @@ impl Place {
         requires column { self.column ≤ 1000 }
         ensures { result ≡ north_id n self }
     {
-        1 + n * (n + 1) + self.row * (n + 1) + self.column
+        IdNumber::from(1 + n * (n + 1) + self.row * (n + 1) + self.column)
     }
 
     /// The id of the face between the edges to the north and to the east.
@@ -118,7 +118,7 @@ impl Place {
         requires column { self.column ≤ 1000 }
         ensures { result ≡ cell_id n self }
     {
-        1 + self.row * n + self.column
+        IdNumber::from(1 + self.row * n + self.column)
     }
 
     /// The signed edge that leaves the node in a direction in which it has an edge.

@@ -11,7 +11,7 @@ use crate::place::Place;
 use bit_words::Memory;
 use plane_model::{EdgeRow, FaceRow, NodeRow, Tables};
 use std::alloc::{AllocError, Global};
-use topo_base::SignedNumber;
+use topo_base::{IdNumber, SignedNumber};
 
 /// How many closed edges the grid of a size has: one in each seventh cell.
 fn closed_count(n: u32) -> u32
@@ -83,16 +83,16 @@ fn closed_edge(n: u32, q: u32) -> EdgeRow
     requires few { q ≤ closed_count n }
     ensures { result ≡ closed_edge n q }
 {
-    let id = 2 * n * (n + 1) + q;
-    let node = (n + 1) * (n + 1) + q;
+    let id = IdNumber::from(2 * n * (n + 1) + q);
+    let node = IdNumber::from((n + 1) * (n + 1) + q);
     EdgeRow {
         id,
         start: node,
         end: node,
         next_left: id as SignedNumber,
         next_right: -(id as SignedNumber),
-        left_face: n * n + q,
-        right_face: 7 * q,
+        left_face: IdNumber::from(n * n + q),
+        right_face: IdNumber::from(7 * q),
     }
 }
 
@@ -119,7 +119,7 @@ fn push_closed_nodes(nodes: &mut Vec<NodeRow>, n: u32) -> Result<(), AllocError>
 {
     for q in 0..closed_count(n) {
         nodes.push(NodeRow {
-            id: (n + 1) * (n + 1) + (1 + q),
+            id: IdNumber::from((n + 1) * (n + 1) + (1 + q)),
             face: None,
         })?;
     }
@@ -134,8 +134,8 @@ fn push_isolated_nodes(nodes: &mut Vec<NodeRow>, n: u32) -> Result<(), AllocErro
     let before = (n + 1) * (n + 1) + closed_count(n);
     for q in 0..isolated_count(n) {
         nodes.push(NodeRow {
-            id: before + (1 + q),
-            face: Some(11 * (1 + q)),
+            id: IdNumber::from(before + (1 + q)),
+            face: Some(IdNumber::from(11 * (1 + q))),
         })?;
     }
     Ok(())
@@ -184,7 +184,9 @@ fn push_faces(faces: &mut Vec<FaceRow>, n: u32) -> Result<(), AllocError>
     ensures { OnOk result (faces.new.items ≡ faces.old.items ++ map cell (range_with_len 1 (n * n + closed_count n))) }
 {
     for f in 0..n * n + closed_count(n) {
-        faces.push(FaceRow { id: 1 + f })?;
+        faces.push(FaceRow {
+            id: IdNumber::from(1 + f),
+        })?;
     }
     Ok(())
 }

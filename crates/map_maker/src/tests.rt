@@ -3,9 +3,15 @@
 use crate::grid;
 use plane_model::{EdgeRow, NodeRow};
 use std::test::Fail;
+use topo_base::{IdNumber, SignedNumber};
 
 /// An edge of the grid of size 1.
-const fn edge(id: u32, ends: (u32, u32), nexts: (i32, i32), faces: (u32, u32)) -> EdgeRow {
+const fn edge(
+    id: IdNumber,
+    ends: (IdNumber, IdNumber),
+    nexts: (SignedNumber, SignedNumber),
+    faces: (IdNumber, IdNumber),
+) -> EdgeRow {
     EdgeRow {
         id,
         start: ends.0,

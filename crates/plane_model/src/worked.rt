@@ -45,7 +45,7 @@ pub fn answers_of_maps()
     ensures regions { answers (map_of island_in_regions) (codes "regions 1\nregions 2\nregions 0\ncommon 1 2\ncommon 0 1\ncounts") ≡ codes "regions 1: 2 1\nregions 2: 1\nregions 0:\ncommon 1 2: 1\ncommon 0 1:\ncounts: 5 4 2 2 2\n" }
     ensures other_lines { answers (map_of triangle) (codes "\n# x\nnode 99\nnode x\nnode 0\n" ++ replicate 256 97 ++ codes "\nnext 1") ≡ codes "node 99: unknown\nbad\nbad\nlong\nnext 1: 2\n" }
     ensures carriage_return { answers (map_of triangle) (codes "node 2\r\n") ≡ codes "node 2: -1 2\n" }
-    ensures greatest_id { answers (map_of (tables (1 ∷ []) (loop 2147483647 ∷ []) (1 ∷ []))) (codes "ring -2147483647\nring -2147483648\n") ≡ codes "ring -2147483647: -2147483647\nbad\n" }
+    ensures greatest_id { answers (map_of (tables (1 ∷ []) (loop 9223372036854775807 ∷ []) (1 ∷ []))) (codes "ring -9223372036854775807\nring -9223372036854775808\n") ≡ codes "ring -9223372036854775807: -9223372036854775807\nbad\n" }
 {}
 
 /// The first fault of worked tables.
@@ -82,7 +82,8 @@ pub fn rows_of_texts()
     ensures no_containing_face { node_rows (codes "node_id\n1\n") ≡ Err (refusal.ColumnMissing table.Node column.ContainingFace) }
     ensures column_twice { face_rows (codes "face_id,face_id\n1,1\n") ≡ Err (refusal.ColumnTwice table.Face column.FaceId) }
     ensures row_shape { face_rows (codes "face_id,mbr\n1,x\n2\n") ≡ Err (refusal.RowShape table.Face 2 1 2) }
-    ensures too_great { edge_rows (edge_header ++ codes "2147483648,1,1,1,-1,1,0\n") ≡ Err (refusal.BadNumber table.Edge 1 column.EdgeId) }
+    ensures too_great { edge_rows (edge_header ++ codes "9223372036854775808,1,1,1,-1,1,0\n") ≡ Err (refusal.BadNumber table.Edge 1 column.EdgeId) }
+    ensures beyond_32_bits { edge_rows (edge_header ++ codes "2147483648,1,1,2147483648,-2147483648,1,0\n") ≡ Ok (loop 2147483648 ∷ []) }
     ensures empty_end { edge_rows (edge_header ++ codes "1,1,2,2,-3,1,0\n2,2,,3,-1,1,0\n") ≡ Err (refusal.EmptyNumber table.Edge 2 column.EndNode) }
     ensures leading_zero { face_rows (codes "face_id\n01\n") ≡ Err (refusal.BadNumber table.Face 1 column.FaceId) }
     ensures zero_next { edge_rows (edge_header ++ codes "1,1,1,0,-1,1,0\n") ≡ Err (refusal.BadNumber table.Edge 1 column.NextLeftEdge) }

@@ -8,7 +8,7 @@ use Rattle.std.proofs.lemmas.Bool.Decides.{nat_tests}
 use Rattle.std.proofs.lemmas.List.Folds.{list_all-append}
 use Rattle.std.proofs.lemmas.Fmt.{length-decimal-le}
 use Rattle.topo_base.specs.Script as script
-use Rattle.topo_base.specs.Script.{words, query, line, short_line, text, without_cr, is_comment, ask_or_bad}
+use Rattle.topo_base.specs.Script.{words, query, line, short_line, text, item_text, without_cr, is_comment, ask_or_bad}
 use Rattle.topo_base.specs.SignedEdge.{IsSignedEdge}
 use Rattle.topo_base.specs.Spelling.{id_number, positive_number, signed_number}
 use Rattle.topo_base.specs.declared.id.TheConstants.{LARGEST_ID}
@@ -16,17 +16,49 @@ use Rattle.topo_base.proofs.Spelled.{id_text, id_within, id_reads, positive_text
 use Rattle.query_text.specs.declared.form.Form.{Form}
 use Rattle.query_text.specs.declared.form.Form.TheVariants.{Node, Ring, Next, Ends, Sides, Face, Adjacent, Contains, Islands, Regions, Common, Counts}
 use Rattle.query_text.specs.Forms.{word_of, all_forms, form_query, two_faces, word_query}
-use Rattle.query_text.specs.Lines.{HasIdsInRange}
+use Rattle.query_text.specs.Lines.{HasIdsInRange, HasNumbersInRange}
 use Rattle.query_text.proofs.Words.{lacks, words_whole, words_space, words_some, words_one, words_more}
 use Rattle.query_text.proofs.Queries.{decimal_lacks, signed_lacks, by_form, alone, known, unknown}
 use Rattle.query_text.proofs.Returns.{kept}
 
-decimal_short : (n : ℕ) → n ≤ LARGEST_ID → length (decimal n) ≤ 20
-decimal_short n high = length-decimal-le 20 n (omega arith) (omega arith) (omega arith)
+decimal_short : (n : ℕ) → n ≤ LARGEST_ID → length (decimal n) ≤ 19
+decimal_short n high = length-decimal-le 19 n (omega arith) (omega arith) (omega arith)
 
-signed_short : (d : ℤ) → IsSignedEdge d → length (signed_decimal d) ≤ 21
+signed_short : (d : ℤ) → IsSignedEdge d → length (signed_decimal d) ≤ 20
 signed_short (pos n) h = let high : n ≤ LARGEST_ID = grind (arith, nat_tests) in omega (arith, decimal_short n high)
 signed_short (negsuc n) h = let high : suc n ≤ LARGEST_ID = grind (arith, nat_tests) in omega (arith, decimal_short (suc n) high)
+
+short : (word rest : List ℕ) → length word ≤ 9 → length rest ≤ 20 → length (word ++ rest) ≤ 46
+short word rest h l = omega (arith, length-append word rest)
+
+-- the text of a query with ids in range has at most 46 bytes
+pub text_short : (q : script.Query) → HasIdsInRange q → length (text q) ≤ 46
+text_short (script.Node n) h = short (codes "node ") (decimal n) (omega arith) (omega (arith, decimal_short n h.1))
+text_short (script.Ring d) h = short (codes "ring ") (signed_decimal d) (omega arith) (signed_short d h)
+text_short (script.Next d) h = short (codes "next ") (signed_decimal d) (omega arith) (signed_short d h)
+text_short (script.Ends d) h = short (codes "ends ") (signed_decimal d) (omega arith) (signed_short d h)
+text_short (script.Sides d) h = short (codes "sides ") (signed_decimal d) (omega arith) (signed_short d h)
+text_short (script.Face f) h = short (codes "face ") (decimal f) (omega arith) (omega (arith, decimal_short f h))
+text_short (script.Adjacent f) h = short (codes "adjacent ") (decimal f) (omega arith) (omega (arith, decimal_short f h))
+text_short (script.Contains n) h = short (codes "contains ") (decimal n) (omega arith) (omega (arith, decimal_short n h.1))
+text_short (script.Islands f) h = short (codes "islands ") (decimal f) (omega arith) (omega (arith, decimal_short f h))
+text_short (script.Regions f) h = short (codes "regions ") (decimal f) (omega arith) (omega (arith, decimal_short f h))
+text_short (script.Common f g) h =
+    omega (
+      arith,
+      length-append (codes "common " ++ decimal f ++ codes " ") (decimal g),
+      length-append (codes "common " ++ decimal f) (codes " "),
+      length-append (codes "common ") (decimal f),
+      decimal_short f h.0,
+      decimal_short g h.1,
+    )
+text_short script.Counts h = omega arith
+
+-- an item with numbers in range has at most 21 bytes
+pub item_short : (i : script.Item) → HasNumbersInRange i → length (item_text i) ≤ 21
+item_short (script.Signed_edge d) h = omega (arith, length-append (codes " ") (signed_decimal d), signed_short d h)
+item_short (script.Number n) h = omega (arith, length-append (codes " ") (decimal n), decimal_short n h)
+item_short (script.Island_node n) h = omega (arith, length-append (codes " n") (decimal n), decimal_short n h)
 
 -- what the text of each form is known by
 record IsWord (word : List ℕ) : Type 0 where

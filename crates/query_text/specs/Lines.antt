@@ -58,3 +58,9 @@ HasIdsInRange (script.Islands f) = f ≤ LARGEST_ID
 HasIdsInRange (script.Regions f) = f ≤ LARGEST_ID
 HasIdsInRange (script.Common f g) = (f ≤ LARGEST_ID) × (g ≤ LARGEST_ID)
 HasIdsInRange script.Counts = Unit {0}
+
+-- numbers up to the greatest id
+abbrev pub HasNumbersInRange : script.Item → Type 0
+HasNumbersInRange (script.Signed_edge d) = IsSignedEdge d
+HasNumbersInRange (script.Number n) = n ≤ LARGEST_ID
+HasNumbersInRange (script.Island_node n) = n ≤ LARGEST_ID

@@ -2,7 +2,7 @@ use crate::{Query, head, node_item, number_item, read_line, signed_item};
 use std::test::Fail;
 use topo_base::{FaceId, IdNumber, NodeId, Signed, SignedNumber};
 
-const LARGEST: IdNumber = 2_147_483_647;
+const LARGEST: IdNumber = 9_223_372_036_854_775_807;
 
 fn edge(number: SignedNumber) -> Result<Signed, Fail> {
     Ok(Signed::new(number).ok_or("no signed edge")?)
@@ -12,35 +12,59 @@ fn edge(number: SignedNumber) -> Result<Signed, Fail> {
 fn reads_each_form_with_its_least_and_greatest_ids(rt: HostRuntime) -> Result<(), Fail> {
     let rows = [
         ("node 1", Query::Node(NodeId(1))),
-        ("node 2147483647", Query::Node(NodeId(LARGEST))),
+        ("node 9223372036854775807", Query::Node(NodeId(LARGEST))),
         ("ring 1", Query::Ring(edge(1)?)),
-        ("ring -2147483647", Query::Ring(edge(-2_147_483_647)?)),
-        ("next -1", Query::Next(edge(-1)?)),
-        ("next 2147483647", Query::Next(edge(2_147_483_647)?)),
-        ("ends -1", Query::Ends(edge(-1)?)),
-        ("ends 2147483647", Query::Ends(edge(2_147_483_647)?)),
-        ("sides 1", Query::Sides(edge(1)?)),
-        ("sides -2147483647", Query::Sides(edge(-2_147_483_647)?)),
-        ("face 0", Query::Face(FaceId(0))),
-        ("face 2147483647", Query::Face(FaceId(LARGEST))),
-        ("adjacent 0", Query::Adjacent(FaceId(0))),
-        ("adjacent 2147483647", Query::Adjacent(FaceId(LARGEST))),
-        ("contains 1", Query::Contains(NodeId(1))),
-        ("contains 2147483647", Query::Contains(NodeId(LARGEST))),
-        ("islands 0", Query::Islands(FaceId(0))),
-        ("islands 2147483647", Query::Islands(FaceId(LARGEST))),
-        ("regions 0", Query::Regions(FaceId(0))),
-        ("regions 2147483647", Query::Regions(FaceId(LARGEST))),
         (
-            "common 0 2147483647",
+            "ring -9223372036854775807",
+            Query::Ring(edge(-9_223_372_036_854_775_807)?),
+        ),
+        ("next -1", Query::Next(edge(-1)?)),
+        (
+            "next 9223372036854775807",
+            Query::Next(edge(9_223_372_036_854_775_807)?),
+        ),
+        ("ends -1", Query::Ends(edge(-1)?)),
+        (
+            "ends 9223372036854775807",
+            Query::Ends(edge(9_223_372_036_854_775_807)?),
+        ),
+        ("sides 1", Query::Sides(edge(1)?)),
+        (
+            "sides -9223372036854775807",
+            Query::Sides(edge(-9_223_372_036_854_775_807)?),
+        ),
+        ("face 0", Query::Face(FaceId(0))),
+        ("face 9223372036854775807", Query::Face(FaceId(LARGEST))),
+        ("adjacent 0", Query::Adjacent(FaceId(0))),
+        (
+            "adjacent 9223372036854775807",
+            Query::Adjacent(FaceId(LARGEST)),
+        ),
+        ("contains 1", Query::Contains(NodeId(1))),
+        (
+            "contains 9223372036854775807",
+            Query::Contains(NodeId(LARGEST)),
+        ),
+        ("islands 0", Query::Islands(FaceId(0))),
+        (
+            "islands 9223372036854775807",
+            Query::Islands(FaceId(LARGEST)),
+        ),
+        ("regions 0", Query::Regions(FaceId(0))),
+        (
+            "regions 9223372036854775807",
+            Query::Regions(FaceId(LARGEST)),
+        ),
+        (
+            "common 0 9223372036854775807",
             Query::Common(FaceId(0), FaceId(LARGEST)),
         ),
         (
-            "common 2147483647 0",
+            "common 9223372036854775807 0",
             Query::Common(FaceId(LARGEST), FaceId(0)),
         ),
         (
-            "common 2147483647 2147483647",
+            "common 9223372036854775807 9223372036854775807",
             Query::Common(FaceId(LARGEST), FaceId(LARGEST)),
         ),
         ("counts", Query::Counts),
@@ -95,12 +119,12 @@ fn tells_lines_that_ask_nothing(rt: HostRuntime) -> Result<(), Fail> {
         (b"node 0", Query::Bad),
         (b"node -1", Query::Bad),
         (b"node x", Query::Bad),
-        (b"node 2147483648", Query::Bad),
+        (b"node 9223372036854775808", Query::Bad),
         (b"contains 0", Query::Bad),
         (b"ring 0", Query::Bad),
         (b"ring -0", Query::Bad),
         (b"ring +1", Query::Bad),
-        (b"ring -2147483648", Query::Bad),
+        (b"ring -9223372036854775808", Query::Bad),
         (b"next 01", Query::Bad),
         (b"next --1", Query::Bad),
         (b"face 00", Query::Bad),
@@ -124,8 +148,11 @@ fn tells_lines_that_ask_nothing(rt: HostRuntime) -> Result<(), Fail> {
 #[test]
 fn prints_heads_and_items(rt: HostRuntime) -> Result<(), Fail> {
     let rows = [
-        (Query::Node(NodeId(LARGEST)), "node 2147483647:"),
-        (Query::Ring(edge(-2_147_483_647)?), "ring -2147483647:"),
+        (Query::Node(NodeId(LARGEST)), "node 9223372036854775807:"),
+        (
+            Query::Ring(edge(-9_223_372_036_854_775_807)?),
+            "ring -9223372036854775807:",
+        ),
         (Query::Next(edge(7)?), "next 7:"),
         (Query::Ends(edge(-7)?), "ends -7:"),
         (Query::Sides(edge(7)?), "sides 7:"),
@@ -135,6 +162,10 @@ fn prints_heads_and_items(rt: HostRuntime) -> Result<(), Fail> {
         (Query::Islands(FaceId(0)), "islands 0:"),
         (Query::Regions(FaceId(0)), "regions 0:"),
         (Query::Common(FaceId(2), FaceId(1)), "common 2 1:"),
+        (
+            Query::Common(FaceId(LARGEST), FaceId(LARGEST)),
+            "common 9223372036854775807 9223372036854775807:",
+        ),
         (Query::Counts, "counts:"),
     ];
     for (query, text) in &rows {
@@ -145,11 +176,18 @@ fn prints_heads_and_items(rt: HostRuntime) -> Result<(), Fail> {
     }
     assert_eq!(rt; signed_item(edge(-3)?).as_slice(), b" -3".as_slice());
     assert_eq!(rt;
-        signed_item(edge(2_147_483_647)?).as_slice(),
-        b" 2147483647".as_slice()
+        signed_item(edge(-9_223_372_036_854_775_807)?).as_slice(),
+        b" -9223372036854775807".as_slice()
     );
     assert_eq!(rt; number_item(0).as_slice(), b" 0".as_slice());
-    assert_eq!(rt; number_item(LARGEST).as_slice(), b" 2147483647".as_slice());
+    assert_eq!(rt;
+        number_item(LARGEST).as_slice(),
+        b" 9223372036854775807".as_slice()
+    );
     assert_eq!(rt; node_item(NodeId(5)).as_slice(), b" n5".as_slice());
+    assert_eq!(rt;
+        node_item(NodeId(LARGEST)).as_slice(),
+        b" n9223372036854775807".as_slice()
+    );
     Ok(())
 }

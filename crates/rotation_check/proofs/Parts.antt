@@ -15,8 +15,8 @@ use Rattle.plane_model.proofs.RotationFaults.{none-rotation_fault}
 use Rattle.rotation_check.specs.Checked.{numbering_fault, face_fault, orbit_fault}
 
 -- ids of which none stands twice are distinct
-pub apart_from : (t : Table) (ids read : List ℕ) (fault : Option Refusal) → read ≡ ids → fault ≡ id_twice t read → fault ≡ None → is_distinct ids ≡ true
-apart_from t ids read fault same is none = sym (none-id_twice t ids) ∙ ap is_none (ap (id_twice t) (sym same) ∙ sym is ∙ none)
+pub apart_from : (t : Table) (ids read : List ℕ) → read ≡ ids → id_twice t read ≡ None → is_distinct ids ≡ true
+apart_from t ids read same none = sym (none-id_twice t ids) ∙ ap is_none (ap (id_twice t) (sym same) ∙ none)
 
 first_of-append : (xs ys : List (Option Refusal)) → first_of (xs ++ ys) ≡ or_else (first_of xs) (first_of ys)
 first_of-append [] ys = refl

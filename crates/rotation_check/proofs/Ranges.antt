@@ -1,5 +1,5 @@
 -- What tables in range say of their rows.
-use Rattle.std.proofs.Common.{ℤ, pos, negsuc, w32, SFits, ◌≡◌, ℕ, zero, suc, ◌<◌, ◌≤◌, Bool, true, List, [], ◌∷◌, length, get_or, refl, arith}
+use Rattle.std.proofs.Common.{ℤ, pos, negsuc, w64, SFits, ◌≡◌, ℕ, zero, suc, ◌<◌, ◌≤◌, Bool, true, List, [], ◌∷◌, length, get_or, refl, arith}
 use Rattle.std.specs.Prelude.{nat_le, nat_lt}
 use Rattle.std.specs.Int.{Width}
 use Rattle.std.proofs.Common.{of_z, to_z}
@@ -86,7 +86,7 @@ ids_small (e ∷ edges) h =
 
 -- the width of signed numbers
 abbrev pub signed_width : Width
-signed_width = w32
+signed_width = w64
 
 fits : (d : ℤ) → edge_of d ≤ LARGEST_ID → SFits signed_width d
 fits (pos n) h = record { sfits = omega arith }

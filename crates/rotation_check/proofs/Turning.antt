@@ -1,17 +1,16 @@
 -- Darts the other way, and round their node.
-use Rattle.std.proofs.Common.{◌≡◌, ℕ, ◌+◌, ◌-◌, ◌*◌, ◌/◌, ◌%◌, ◌<◌, inl, inr, true, List, [], length, refl, sym, ap, ◌∙◌, subst, arith, eq-eqb}
+use Rattle.std.proofs.Common.{◌≡◌, ℕ, ◌+◌, ◌-◌, ◌*◌, ◌/◌, ◌%◌, ◌<◌, inl, inr, true, List, [], length, refl, sym, ap, ◌∙◌, arith, eq-eqb}
 use Rattle.std.specs.Prelude.{slice_index}
 use Rattle.std.proofs.lemmas.Bool.{cases_eq, ne_eqb}
 use Rattle.topo_base.specs.SignedEdge.{reverse}
 use Rattle.plane_model.specs.declared.rows.EdgeRow.{EdgeRow}
-use Rattle.plane_model.specs.declared.rows.NodeRow.{NodeRow}
 use Rattle.plane_model.specs.Rows.{Rows}
 use Rattle.plane_model.specs.PlaneMap.{map_of, next, turn}
 use Rattle.plane_model.specs.Rotation.{is_rotation, is_rotation_system, has_faces}
 use Rattle.plane_model.proofs.RotationOrbits.{reverse-reverse}
 use Rattle.std.proofs.lemmas.Bool.{and_parts}
 use Rattle.plane_model.proofs.Alone.{rotation-alone}
-use Rattle.rotation_check.specs.Darts.{AreDarts, AreNexts, AreNodes, IsRotation, map_of_rotation, reverse_dart, signed_edge}
+use Rattle.rotation_check.specs.Darts.{AreDarts, AreNexts, AreNodes, IsRotation, map_of_rotation, reverse_dart, rotation_rows, signed_edge}
 use Rattle.rotation_check.proofs.Ranges.{in_range, edge_ids_are, ids_positive, ids_small}
 
 pub reverse-within : (edges : List EdgeRow) (dart : ℕ) → dart < 2 * length edges → reverse_dart dart < 2 * length edges
@@ -39,14 +38,13 @@ turn_is edges nexts dart are h =
     (are.1 (reverse_dart dart) (reverse-within edges dart h)).1 ∙ ap (λ d. next (map_of_rotation (record { nodes = []; edges = edges })) d) (signed-reverse_dart edges dart)
 
 -- the rows of tables that are a rotation system are a rotation
-pub rotation_from : (t : Rows) (nodes : List NodeRow) (edges : List EdgeRow) (nexts rows : List ℕ) → nodes ≡ t.nodes → edges ≡ t.edges → AreDarts t nexts rows → is_rotation_system t ≡ true
-    → IsRotation (record { nodes = nodes; edges = edges }) × AreNexts edges nexts × AreNodes nodes edges rows
-rotation_from t nodes edges nexts rows same_nodes same_edges darts system =
+pub rotation_from : (t : Rows) (nexts rows : List ℕ) → AreDarts t nexts rows → is_rotation_system t ≡ true → IsRotation (rotation_rows t) × AreNexts t.edges nexts × AreNodes t.nodes t.edges rows
+rotation_from t nexts rows darts system =
     let a = and_parts _ (has_faces (map_of t)) system in
     let b = and_parts _ (is_rotation (map_of t)) a.0 in
     let range = in_range t darts.in_range in
     let ids = edge_ids_are t darts.in_range in
-    let own : IsRotation (record { nodes = t.nodes; edges = t.edges }) =
+    let own : IsRotation (rotation_rows t) =
     record {
       nodes = darts.node_ids;
       edges = darts.edge_ids;
@@ -55,8 +53,4 @@ rotation_from t nodes edges nexts rows same_nodes same_edges darts system =
       rotation = rotation-alone t ∙ b.1;
       few_edges = range.edge_rows;
       few_nodes = range.node_rows;
-    } in (
-      subst (λ ns. IsRotation (record { nodes = ns; edges = edges })) (sym same_nodes) (subst (λ es. IsRotation (record { nodes = t.nodes; edges = es })) (sym same_edges) own),
-      subst (λ es. AreNexts es nexts) (sym same_edges) darts.next_darts,
-      subst (λ ns. AreNodes ns edges rows) (sym same_nodes) (subst (λ es. AreNodes t.nodes es rows) (sym same_edges) darts.node_rows),
-    )
+    } in (own, darts.next_darts, darts.node_rows)

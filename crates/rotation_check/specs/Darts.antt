@@ -15,6 +15,10 @@ pub record RotationRows : Type 0 where
   pub nodes : List NodeRow
   pub edges : List EdgeRow
 
+-- those of all rows of tables
+abbrev pub rotation_rows : Rows → RotationRows
+rotation_rows t = record { nodes = t.nodes; edges = t.edges }
+
 abbrev pub map_of_rotation : RotationRows → PlaneMap
 map_of_rotation r = map_of (record { nodes = r.nodes; edges = r.edges; faces = []; regions = []; members = [] })
 

@@ -1,6 +1,6 @@
 -- The rows of tables by their ids.
 use Rattle.std.specs.Prelude.{map}
-use Rattle.rotation_check.specs.Index.{IsIndex}
+use Rattle.id_index.specs.Index.{IsIndex}
 use Rattle.rotation_check.specs.declared.nodes.NodeIndex.{NodeIndex}
 use Rattle.rotation_check.specs.declared.nexts.EdgeIndex.{EdgeIndex}
 use Rattle.rotation_check.specs.declared.faces.FaceIndex.{FaceIndex}

@@ -1,6 +1,5 @@
 pub mod Counts
 pub mod Checked
 pub mod Darts
-pub mod Index
 pub mod Indexed
 pub mod Numbered

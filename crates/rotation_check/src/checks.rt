@@ -1,21 +1,22 @@
 //! The checks.
 
-ghost use Rattle.std.specs.Prelude.{◌≡◌, IfOk, IfErr, IsTrue, OnOk, None};
+ghost use Rattle.std.specs.Prelude.{◌≡◌, IfOk, IfErr, IsTrue, OnOk, None, map};
 ghost use Rattle.plane_model.specs.Rows.{rows_of};
 ghost use Rattle.plane_model.specs.InRange.{is_in_range};
 ghost use Rattle.plane_model.specs.Rotation.{is_rotation_system};
 ghost use Rattle.plane_model.specs.Faults.{rotation_fault};
+ghost use Rattle.id_index.specs.Index.{IsIndex};
 ghost use Rattle.rotation_check.specs.Checked.{Names, numbering_fault, face_fault, orbit_fault};
 ghost use Rattle.rotation_check.specs.Numbered.{IsNumbered, rows_of_darts};
 
 use crate::counts::{count_each, place_each};
 use crate::darts::Darts;
 use crate::faces::FaceIndex;
-use crate::ids::{edge_ids, face_ids, node_ids, repeated_id};
-use crate::index::rows_by_id;
+use crate::ids::{distinct_index, edge_ids, face_ids, node_ids};
 use crate::nexts::EdgeIndex;
 use crate::nodes::NodeIndex;
 use crate::rotation::Rotation;
+use id_index::IdIndex;
 use plane_model::Tables;
 use std::alloc::{AllocError, AllocFailed, Global};
 use topo_base::{Refusal, Table};
@@ -61,7 +62,7 @@ impl<T: Drop> From<AllocFailed<T>> for CheckFault {
 }
 
 /// Nothing, or the refusal of a fault.
-fn refuse(fault: Option<Refusal>) -> Result<(), CheckFault>
+pub(crate) fn refuse(fault: Option<Refusal>) -> Result<(), CheckFault>
     ensures fine { OnOk result (fault ≡ None) }
     ensures refused { IfErr result (λ e. Names e fault) }
 {
@@ -71,35 +72,38 @@ fn refuse(fault: Option<Refusal>) -> Result<(), CheckFault>
     }
 }
 
-/// The darts of tables whose ids are distinct and whose edges have their nodes and nexts, or what is first wrong with
-/// them.
-fn number_darts<'a>(alloc: Global, tables: &'a Tables) -> Result<Darts<'a>, CheckFault>
+/// The darts of tables whose ids are distinct and whose edges have their nodes and nexts, with the index of their
+/// faces, or what is first wrong with them.
+fn number_darts<'a>(alloc: Global, tables: &'a Tables) -> Result<(Darts<'a>, IdIndex), CheckFault>
     requires { IsTrue (is_in_range (rows_of tables.now)) }
-    ensures tables { IfOk result (λ darts. darts.tables.now ≡ tables.now) }
-    ensures numbered { IfOk result IsNumbered }
+    ensures tables { IfOk result (λ numbered. numbered.0.tables.now ≡ tables.now) }
+    ensures numbered { IfOk result (λ numbered. IsNumbered numbered.0) }
+    ensures faces { IfOk result (λ numbered. IsIndex (map (λ f. f.id) tables.now.faces.items) numbered.1) }
     ensures fine { OnOk result (numbering_fault (rows_of tables.now) ≡ None) }
     ensures refused { IfErr result (λ e. Names e (numbering_fault (rows_of tables.now))) }
 {
-    let node_ids = node_ids(alloc, &tables.nodes)?;
-    refuse(repeated_id(alloc, Table::Node, &node_ids)?)?;
-    let edge_ids = edge_ids(alloc, &tables.edges)?;
-    refuse(repeated_id(alloc, Table::Edge, &edge_ids)?)?;
-    let face_ids = face_ids(alloc, &tables.faces)?;
-    refuse(repeated_id(alloc, Table::Face, &face_ids)?)?;
-    let rows = rows_by_id(alloc, &node_ids)?;
-    let node = NodeIndex { tables, rows }.nodes_of_darts(alloc)?;
-    let rows = rows_by_id(alloc, &edge_ids)?;
-    let next = EdgeIndex { tables, rows }.nexts_of_darts(alloc)?;
-    Ok(Darts { tables, next, node })
+    let nodes = distinct_index(alloc, Table::Node, &node_ids(alloc, &tables.nodes)?)?;
+    let edges = distinct_index(alloc, Table::Edge, &edge_ids(alloc, &tables.edges)?)?;
+    let faces = distinct_index(alloc, Table::Face, &face_ids(alloc, &tables.faces)?)?;
+    let node = NodeIndex {
+        tables,
+        rows: nodes,
+    }
+    .nodes_of_darts(alloc)?;
+    let next = EdgeIndex {
+        tables,
+        rows: edges,
+    }
+    .nexts_of_darts(alloc)?;
+    Ok((Darts { tables, next, node }, faces))
 }
 
 /// Nothing where faces have rows, or the first that has none.
-fn check_faces(alloc: Global, tables: &Tables) -> Result<(), CheckFault>
-    requires { IsTrue (is_in_range (rows_of tables.now)) }
+fn check_faces(tables: &Tables, rows: IdIndex) -> Result<(), CheckFault>
+    requires { IsIndex (map (λ f. f.id) tables.now.faces.items) rows }
     ensures fine { OnOk result (face_fault (rows_of tables.now) ≡ None) }
     ensures refused { IfErr result (λ e. Names e (face_fault (rows_of tables.now))) }
 {
-    let rows = rows_by_id(alloc, &face_ids(alloc, &tables.faces)?)?;
     let faces = FaceIndex { tables, rows };
     refuse(faces.first_missing_side())?;
     refuse(faces.first_missing_container())
@@ -122,15 +126,15 @@ fn check_orbits(alloc: Global, darts: &Darts) -> Result<(), CheckFault>
 }
 
 /// The rotation of tables that are a rotation system, or what is first wrong with them.
-pub fn check(alloc: Global, tables: &Tables) -> Result<Rotation, CheckFault>
+pub fn check<'a>(alloc: Global, tables: &'a Tables) -> Result<Rotation<'a>, CheckFault>
     requires { IsTrue (is_in_range (rows_of tables.now)) }
     ensures system { OnOk result (IsTrue (is_rotation_system (rows_of tables.now))) }
     ensures nodes { IfOk result (λ rotation. rotation.nodes ≡ (rows_of tables.now).nodes) }
     ensures edges { IfOk result (λ rotation. rotation.edges ≡ (rows_of tables.now).edges) }
     ensures refused { IfErr result (λ e. Names e (rotation_fault (rows_of tables.now))) }
 {
-    let darts = number_darts(alloc, tables)?;
-    check_faces(alloc, tables)?;
+    let (darts, faces) = number_darts(alloc, tables)?;
+    check_faces(tables, faces)?;
     check_orbits(alloc, &darts)?;
-    Ok(Rotation::new(alloc, darts)?)
+    Ok(Rotation::new(darts))
 }

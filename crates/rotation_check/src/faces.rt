@@ -1,14 +1,14 @@
 //! Faces that have no row.
 
+use id_index::IdIndex;
 use plane_model::{EdgeRow, NodeRow, Tables};
-use std::collections::BTreeMap;
 use topo_base::{IdNumber, Refusal, Table};
 
 /// The rows of faces by their ids.
 #[derive(Drop)]
 pub struct FaceIndex<'a> {
     pub tables: &'a Tables,
-    pub rows: BTreeMap<IdNumber, u32>,
+    pub rows: IdIndex,
 }
 
 impl<'a> FaceIndex<'a> {
@@ -25,7 +25,7 @@ impl<'a> FaceIndex<'a> {
         requires { IsFaceIndex self.now }
         ensures { result ≡ is_face (map_of (rows_of self.now.tables.now)) face }
     {
-        face == 0 || self.rows.contains_key(&face)
+        face == 0 || self.rows.row_of(face).is_some()
     }
 
     /// What is wrong where a face that a row names is not there.

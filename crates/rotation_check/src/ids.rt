@@ -1,9 +1,12 @@
-//! The ids of rows, and those that stand twice.
+//! The ids of rows, and their index where none stands twice.
 
-ghost use Rattle.std.specs.Prelude.{◌≡◌, map, IfOk};
+ghost use Rattle.std.specs.Prelude.{◌≡◌, ◌<◌, ◌^◌, length, map, IfErr, IfOk, OnOk, None};
 ghost use Rattle.plane_model.specs.Faults.{id_twice};
+ghost use Rattle.id_index.specs.Index.{IsIndex};
+ghost use Rattle.rotation_check.specs.Checked.{Names};
 
-use plane_model::ids::least_id_twice;
+use crate::checks::{CheckFault, refuse};
+use id_index::IdIndex;
 use plane_model::{EdgeRow, FaceRow, NodeRow};
 use std::alloc::{AllocError, Global};
 use topo_base::{IdNumber, Refusal, Table};
@@ -29,14 +32,14 @@ pub fn face_ids(alloc: Global, rows: &[FaceRow]) -> Result<Vec<IdNumber>, AllocE
     rows.iter().map(|row| row.id).collect(alloc)
 }
 
-/// The least id of a table that stands in two rows.
-pub fn repeated_id(
-    alloc: Global,
-    table: Table,
-    ids: &[IdNumber],
-) -> Result<Option<Refusal>, AllocError>
-    ensures { IfOk result (λ fault. fault ≡ id_twice table ids.now) }
+/// The index of the ids of a table, or the least of them that stands in two rows.
+pub fn distinct_index(alloc: Global, table: Table, ids: &[IdNumber]) -> Result<IdIndex, CheckFault>
+    requires { length ids.now < 2 ^ 32 }
+    ensures index { IfOk result (IsIndex ids.now) }
+    ensures fine { OnOk result (id_twice table ids.now ≡ None) }
+    ensures refused { IfErr result (λ e. Names e (id_twice table ids.now)) }
 {
-    let sorted = Vec::from_slice(alloc, ids)?;
-    Ok(least_id_twice(sorted).map(|id| Refusal::IdTwice { table, id }))
+    let index = IdIndex::new(alloc, ids)?;
+    refuse(index.repeated().map(|id| Refusal::IdTwice { table, id }))?;
+    Ok(index)
 }

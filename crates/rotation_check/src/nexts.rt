@@ -2,16 +2,16 @@
 
 use crate::checks::CheckFault;
 use crate::signed::{edge_id, is_forward};
+use id_index::IdIndex;
 use plane_model::{EdgeRow, Tables};
 use std::alloc::Global;
-use std::collections::BTreeMap;
-use topo_base::{IdNumber, Refusal, SignedNumber};
+use topo_base::{Refusal, SignedNumber};
 
 /// The rows of edges by their ids.
 #[derive(Drop)]
 pub struct EdgeIndex<'a> {
     pub tables: &'a Tables,
-    pub rows: BTreeMap<IdNumber, u32>,
+    pub rows: IdIndex,
 }
 
 impl<'a> EdgeIndex<'a> {
@@ -33,7 +33,7 @@ impl<'a> EdgeIndex<'a> {
         requires signed { IsSignedEdge number }
         ensures { MatchOption result (IsFalse (has (map (λ e. e.id) self.now.tables.now.edges.items) (edge_of number))) (IsDartOf self.now.tables.now.edges.items number) }
     {
-        let row = *self.rows.get(&edge_id(number))?;
+        let row = self.rows.row_of(edge_id(number))?;
         Some(if is_forward(number) {
             2 * row
         } else {

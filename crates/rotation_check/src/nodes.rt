@@ -1,16 +1,16 @@
 //! The node that each dart leaves, where the tables have a row for it.
 
 use crate::checks::CheckFault;
+use id_index::IdIndex;
 use plane_model::{EdgeRow, Tables};
 use std::alloc::Global;
-use std::collections::BTreeMap;
-use topo_base::{IdNumber, Refusal};
+use topo_base::Refusal;
 
 /// The rows of nodes by their ids.
 #[derive(Drop)]
 pub struct NodeIndex<'a> {
     pub tables: &'a Tables,
-    pub rows: BTreeMap<IdNumber, u32>,
+    pub rows: IdIndex,
 }
 
 impl<'a> NodeIndex<'a> {
@@ -31,19 +31,19 @@ impl<'a> NodeIndex<'a> {
         ensures end { IfOk result (λ ends. slice_get (map (λ n. n.id) self.now.tables.now.nodes.items) ends.1 ≡ Some edge.now.end) }
         ensures fault { MatchResult result (λ _. no_node (map_of (rows_of self.now.tables.now)) edge.now ≡ None) (λ e. no_node (map_of (rows_of self.now.tables.now)) edge.now ≡ Some e) }
     {
-        let Some(start) = self.rows.get(&edge.start) else {
+        let Some(start) = self.rows.row_of(edge.start) else {
             return Err(Refusal::NoNode {
                 edge: edge.id,
                 node: edge.start,
             });
         };
-        let Some(end) = self.rows.get(&edge.end) else {
+        let Some(end) = self.rows.row_of(edge.end) else {
             return Err(Refusal::NoNode {
                 edge: edge.id,
                 node: edge.end,
             });
         };
-        Ok((*start, *end))
+        Ok((start, end))
     }
 
     /// The row of the node that each dart leaves, or the first edge with a node that has no row.

@@ -2,54 +2,46 @@
 
 use crate::darts::{Darts, reversed};
 use crate::signed::signed_of_dart;
-use plane_model::{EdgeRow, NodeRow};
-use std::alloc::{AllocError, Global};
+use plane_model::Tables;
 use std::marker::Model;
 use topo_base::{IdNumber, Signed};
 
-/// A rotation system. The edge of row `i`, from 0, has the dart `2 * i` forward and `2 * i + 1` backward.
+/// A rotation system of borrowed tables. The edge of row `i`, from 0, has the dart `2 * i` forward and `2 * i + 1` backward.
 #[derive(Drop)]
-pub struct Rotation {
-    nodes: Vec<NodeRow>,
-    edges: Vec<EdgeRow>,
+pub struct Rotation<'a> {
+    tables: &'a Tables,
     next: Vec<u32>,
     node: Vec<u32>,
 }
 
-impl Model for Rotation {
+impl<'a> Model for Rotation<'a> {
     ghost use Rattle.std.specs.Prelude.{◌≡◌, IsTrue, ◌≤◌, ◌*◌, length, vec_len};
-    ghost use Rattle.rotation_check.specs.Darts.{RotationRows, IsRotation, AreNexts, AreNodes};
+    ghost use Rattle.plane_model.specs.Rows.{rows_of};
+    ghost use Rattle.rotation_check.specs.Darts.{RotationRows, IsRotation, AreNexts, AreNodes, rotation_rows};
 
     ghost Value = { RotationRows };
 
-    ghost view = { λ r. record { nodes = r.nodes.items; edges = r.edges.items } };
+    ghost view = { λ r. rotation_rows (rows_of r.tables.now) };
 
-    ghost invariant = { λ r. IsRotation (record { nodes = r.nodes.items; edges = r.edges.items }) × AreNexts r.edges.items r.next.items × AreNodes r.nodes.items r.edges.items r.node.items };
+    ghost invariant = { λ r. IsRotation (rotation_rows (rows_of r.tables.now)) × AreNexts r.tables.now.edges.items r.next.items × AreNodes r.tables.now.nodes.items r.tables.now.edges.items r.node.items };
 }
 
-impl Rotation {
-    ghost use Rattle.std.specs.Prelude.{◌≡◌, ◌*◌, ◌<◌, ◌≤◌, IfOk, IsTrue, length};
+impl<'a> Rotation<'a> {
+    ghost use Rattle.std.specs.Prelude.{◌≡◌, ◌*◌, ◌<◌, ◌≤◌, IsTrue, length};
     ghost use Rattle.plane_model.specs.PlaneMap.{next, origin, side, turn};
     ghost use Rattle.plane_model.specs.Rotation.{is_rotation_system};
     ghost use Rattle.rotation_check.specs.Darts.{IsRotation, map_of_rotation, node_id, signed_edge};
     ghost use Rattle.rotation_check.specs.Numbered.{IsNumbered, rows_of_darts};
 
     /// The rotation of darts whose tables are a rotation system.
-    pub(crate) fn new(alloc: Global, darts: Darts) -> Result<Self, AllocError>
+    pub(crate) fn new(darts: Darts<'a>) -> Self
         requires numbered { IsNumbered darts }
         requires system { IsTrue (is_rotation_system (rows_of_darts darts)) }
-        ensures nodes { IfOk result (λ rotation. rotation.nodes ≡ (rows_of_darts darts.entry).nodes) }
-        ensures edges { IfOk result (λ rotation. rotation.edges ≡ (rows_of_darts darts.entry).edges) }
+        ensures nodes { result.nodes ≡ (rows_of_darts darts.entry).nodes }
+        ensures edges { result.edges ≡ (rows_of_darts darts.entry).edges }
     {
         let Darts { tables, next, node } = darts;
-        let nodes = Vec::from_slice(alloc, &tables.nodes)?;
-        let edges = Vec::from_slice(alloc, &tables.edges)?;
-        Ok(Rotation {
-            nodes,
-            edges,
-            next,
-            node,
-        })
+        Rotation { tables, next, node }
     }
 
     /// How many edges there are; there are twice as many darts.
@@ -57,7 +49,7 @@ impl Rotation {
         ensures edges { result ≡ length self.now.edges }
         ensures rotation { IsRotation self.now }
     {
-        self.edges.len() as u32
+        self.tables.edges.len() as u32
     }
 
     /// How many nodes there are.
@@ -65,7 +57,7 @@ impl Rotation {
         ensures nodes { result ≡ length self.now.nodes }
         ensures rotation { IsRotation self.now }
     {
-        self.nodes.len() as u32
+        self.tables.nodes.len() as u32
     }
 
     /// The dart after a dart round the face on its left.
@@ -100,7 +92,7 @@ impl Rotation {
         requires { dart < 2 * length self.now.edges }
         ensures { result ≡ side (map_of_rotation self.now) (signed_edge self.now.edges dart) }
     {
-        let edge = &self.edges[(dart / 2) as usize];
+        let edge = &self.tables.edges[(dart / 2) as usize];
         if dart % 2 == 0 {
             edge.left_face
         } else {
@@ -113,6 +105,6 @@ impl Rotation {
         requires { dart < 2 * length self.now.edges }
         ensures { result ≡ signed_edge self.now.edges dart }
     {
-        signed_of_dart(&self.edges, dart)
+        signed_of_dart(&self.tables.edges, dart)
     }
 }

@@ -134,15 +134,12 @@ fn tables(
     })
 }
 
-fn checked(
+fn checked<'a>(
     alloc: Global,
-    nodes: &[Node],
-    edges: &[Edge],
-    faces: &[IdNumber],
-) -> Result<Result<Rotation, CheckFault>, Fail> {
-    let tables = tables(alloc, nodes, edges, faces)?;
-    if are_in_range(&tables) {
-        Ok(check(alloc, &tables))
+    tables: &'a Tables,
+) -> Result<Result<Rotation<'a>, CheckFault>, Fail> {
+    if are_in_range(tables) {
+        Ok(check(alloc, tables))
     } else {
         Err(Fail::new("a number that is out of range"))
     }
@@ -164,12 +161,13 @@ fn darts(alloc: Global, rotation: &Rotation) -> Result<Vec<Dart>, AllocError> {
 
 #[test]
 fn a_triangle_has_six_darts(rt: HostRuntime) -> Result<(), Fail> {
-    let rotation = checked(
+    let given = tables(
         rt.alloc(),
         &[(1, None), (2, None), (3, None)],
         &TRIANGLE,
         &[0, 1],
-    )??;
+    )?;
+    let rotation = checked(rt.alloc(), &given)??;
     assert_eq!(rt; rotation.edges(), 3);
     assert_eq!(rt; rotation.nodes(), 3);
     let wanted: [Dart; 6] = [
@@ -193,7 +191,8 @@ fn three_parallel_edges_turn_round_their_nodes(rt: HostRuntime) -> Result<(), Fa
         (2, (1, 2), (-1, 3), (1, 2)),
         (3, (1, 2), (-2, 1), (2, 0)),
     ];
-    let rotation = checked(rt.alloc(), &nodes, &edges, &[2, 1])??;
+    let given = tables(rt.alloc(), &nodes, &edges, &[2, 1])?;
+    let rotation = checked(rt.alloc(), &given)??;
     let wanted: [Dart; 6] = [
         (5, 2, 1, 0, 1),
         (2, 5, 0, 1, -1),
@@ -210,31 +209,33 @@ fn three_parallel_edges_turn_round_their_nodes(rt: HostRuntime) -> Result<(), Fa
 fn sparse_ids_loops_and_isolated_nodes_are_a_rotation(rt: HostRuntime) -> Result<(), Fail> {
     // A dangling edge with the largest ids, a closed edge, and an isolated node in face 7.
     let nodes = [
-        (2_147_483_647, None),
+        (9_223_372_036_854_775_807, None),
         (9, Some(7)),
-        (2_147_483_646, None),
+        (9_223_372_036_854_775_806, None),
         (5, None),
     ];
     let edges = [
         (
-            2_147_483_647,
-            (2_147_483_647, 2_147_483_646),
-            (-2_147_483_647, 2_147_483_647),
+            9_223_372_036_854_775_807,
+            (9_223_372_036_854_775_807, 9_223_372_036_854_775_806),
+            (-9_223_372_036_854_775_807, 9_223_372_036_854_775_807),
             (0, 0),
         ),
         (4, (5, 5), (4, -4), (7, 0)),
     ];
-    let rotation = checked(rt.alloc(), &nodes, &edges, &[7])??;
+    let given = tables(rt.alloc(), &nodes, &edges, &[7])?;
+    let rotation = checked(rt.alloc(), &given)??;
     assert_eq!(rt; rotation.edges(), 2);
     assert_eq!(rt; rotation.nodes(), 4);
     let wanted: [Dart; 4] = [
-        (1, 0, 0, 0, 2_147_483_647),
-        (0, 1, 2, 0, -2_147_483_647),
+        (1, 0, 0, 0, 9_223_372_036_854_775_807),
+        (0, 1, 2, 0, -9_223_372_036_854_775_807),
         (2, 3, 3, 7, 4),
         (3, 2, 3, 0, -4),
     ];
     assert_eq!(rt; darts(rt.alloc(), &rotation)?.as_slice(), wanted.as_slice());
-    let empty = checked(rt.alloc(), &[], &[], &[])??;
+    let nothing = tables(rt.alloc(), &[], &[], &[])?;
+    let empty = checked(rt.alloc(), &nothing)??;
     assert_eq!(rt; empty.edges(), 0);
     assert_eq!(rt; empty.nodes(), 0);
     Ok(())
@@ -252,7 +253,8 @@ struct Case<'a> {
 
 fn refuses(rt: &impl Abort, alloc: Global, cases: &[Case]) -> Result<(), Fail> {
     for case in cases {
-        let fault = checked(alloc, case.nodes, case.edges, case.faces)?.err();
+        let given = tables(alloc, case.nodes, case.edges, case.faces)?;
+        let fault = checked(alloc, &given)?.err();
         assert_eq!(rt;
             fault,
             Some(CheckFault::Refused(case.refusal)),

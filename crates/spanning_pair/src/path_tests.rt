@@ -42,7 +42,7 @@ fn path_nodes(alloc: Global, nodes: u32) -> Result<Vec<NodeRow>, AllocError>
     let mut rows = Vec::new(alloc);
     for node in 0..nodes {
         rows.push(NodeRow {
-            id: node + 1,
+            id: IdNumber::from(node + 1),
             face: None,
         })?;
     }
@@ -56,7 +56,7 @@ fn path_edges(alloc: Global, edges: u32) -> Result<Vec<EdgeRow>, AllocError>
 {
     let mut rows = Vec::new(alloc);
     for edge in 0..edges {
-        rows.push(path_edge(edge + 1, edges))?;
+        rows.push(path_edge(IdNumber::from(edge + 1), IdNumber::from(edges)))?;
     }
     Ok(rows)
 }
@@ -112,7 +112,8 @@ fn there_and_back(alloc: Global, edges: u32) -> Result<Vec<u32>, AllocError>
 
 #[test]
 fn a_path_of_100_000_edges_is_walked_there_and_back(rt: HostRuntime) -> Result<(), Fail> {
-    let rotation = check(rt.alloc(), &path(rt.alloc(), EDGES)?)?;
+    let given = path(rt.alloc(), EDGES)?;
+    let rotation = check(rt.alloc(), &given)?;
     assert_eq!(rt; rotation.edges(), EDGES);
     assert!(rt; is_one_ring(rt.alloc(), &rotation)?);
     let found = tour(rt.alloc(), &rotation, &[0])?;

@@ -4,6 +4,7 @@ ghost use Rattle.std.specs.Prelude.{◌≡◌, IfOk, IsTrue, map};
 ghost use Rattle.plane_model.specs.InRange.{is_in_range};
 ghost use Rattle.plane_model.specs.Rows.{rows_of};
 ghost use Rattle.plane_model.specs.Worked.{edge, face, node, tables};
+ghost use Rattle.rotation_check.specs.Darts.{rotation_rows};
 
 use crate::{TourFault, tour};
 use plane_model::{EdgeRow, FaceRow, NodeRow, Tables};
@@ -60,7 +61,9 @@ fn tables(
     edges: &[Edge],
     faces: &[IdNumber],
 ) -> Result<Tables, AllocError>
-    ensures { IfOk result (λ t. rows_of t ≡ tables nodes.now (map (λ e. edge e.0 e.1 e.2 e.3 e.4 e.5 e.6) edges.now) faces.now) }
+    requires { IsTrue (is_in_range (tables nodes.now (map (λ e. edge e.0 e.1 e.2 e.3 e.4 e.5 e.6) edges.now) faces.now)) }
+    ensures in_range { IfOk result (λ t. IsTrue (is_in_range (rows_of t))) }
+    ensures rows { IfOk result (λ t. rows_of t ≡ tables nodes.now (map (λ e. edge e.0 e.1 e.2 e.3 e.4 e.5 e.6) edges.now) faces.now) }
 {
     Ok(Tables {
         nodes: node_rows(alloc, nodes)?,
@@ -71,17 +74,11 @@ fn tables(
     })
 }
 
-fn rotation(
-    alloc: Global,
-    nodes: &[IdNumber],
-    edges: &[Edge],
-    faces: &[IdNumber],
-) -> Result<Rotation, Fail>
-    requires { IsTrue (is_in_range (tables nodes.now (map (λ e. edge e.0 e.1 e.2 e.3 e.4 e.5 e.6) edges.now) faces.now)) }
-    ensures { IfOk result (λ r. r ≡ record { nodes = map node nodes.now; edges = map (λ e. edge e.0 e.1 e.2 e.3 e.4 e.5 e.6) edges.now }) }
+fn rotation<'a>(alloc: Global, tables: &'a Tables) -> Result<Rotation<'a>, Fail>
+    requires { IsTrue (is_in_range (rows_of tables.now)) }
+    ensures { IfOk result (λ r. r ≡ rotation_rows (rows_of tables.now)) }
 {
-    let tables = tables(alloc, nodes, edges, faces)?;
-    Ok(check(alloc, &tables)?)
+    Ok(check(alloc, tables)?)
 }
 
 #[test]
@@ -91,7 +88,8 @@ fn the_triangle_is_walked_round_its_spanning_tree(rt: HostRuntime) -> Result<(),
         (2, 2, 3, 3, -1, 1, 0),
         (3, 3, 1, 1, -2, 1, 0),
     ];
-    let rotation = rotation(rt.alloc(), &[1, 2, 3], &edges, &[0, 1])?;
+    let given = tables(rt.alloc(), &[1, 2, 3], &edges, &[0, 1])?;
+    let rotation = rotation(rt.alloc(), &given)?;
     let found = tour(rt.alloc(), &rotation, &[1])?;
     assert_eq!(rt; found.darts.as_slice(), [1, 5, 3, 4, 0, 2].as_slice());
     assert_eq!(rt;
@@ -108,7 +106,8 @@ fn the_triangle_is_walked_round_its_spanning_tree(rt: HostRuntime) -> Result<(),
 
 #[test]
 fn a_bridge_is_walked_there_and_back(rt: HostRuntime) -> Result<(), Fail> {
-    let rotation = rotation(rt.alloc(), &[1, 2], &[(1, 1, 2, -1, 1, 0, 0)], &[])?;
+    let given = tables(rt.alloc(), &[1, 2], &[(1, 1, 2, -1, 1, 0, 0)], &[])?;
+    let rotation = rotation(rt.alloc(), &given)?;
     let found = tour(rt.alloc(), &rotation, &[0])?;
     assert_eq!(rt; found.darts.as_slice(), [0, 1].as_slice());
     assert_eq!(rt; found.tree.as_slice(), [true, true].as_slice());
@@ -120,7 +119,8 @@ fn a_bridge_is_walked_there_and_back(rt: HostRuntime) -> Result<(), Fail> {
 #[test]
 fn two_closed_edges_on_a_torus_cross(rt: HostRuntime) -> Result<(), Fail> {
     let edges = [(1, 1, 1, -2, 2, 0, 0), (2, 1, 1, 1, -1, 0, 0)];
-    let rotation = rotation(rt.alloc(), &[1], &edges, &[])?;
+    let given = tables(rt.alloc(), &[1], &edges, &[])?;
+    let rotation = rotation(rt.alloc(), &given)?;
     match tour(rt.alloc(), &rotation, &[0]) {
         Err(fault) => assert_eq!(rt; fault, TourFault::Crossed { edge: 1 }),
         Ok(_) => assert!(rt; false),
@@ -138,7 +138,8 @@ fn two_triangles_are_walked_one_after_the_other(rt: HostRuntime) -> Result<(), F
         (5, 5, 6, 6, -4, 2, 0),
         (6, 6, 4, 4, -5, 2, 0),
     ];
-    let rotation = rotation(rt.alloc(), &[1, 2, 3, 4, 5, 6], &edges, &[1, 2])?;
+    let given = tables(rt.alloc(), &[1, 2, 3, 4, 5, 6], &edges, &[1, 2])?;
+    let rotation = rotation(rt.alloc(), &given)?;
     let found = tour(rt.alloc(), &rotation, &[7, 0])?;
     assert_eq!(rt;
         found.darts.as_slice(),
@@ -169,7 +170,8 @@ fn a_star_is_walked_leaf_by_leaf(rt: HostRuntime) -> Result<(), Fail> {
         (2, 1, 3, -2, 3, 0, 0),
         (3, 1, 4, -3, 1, 0, 0),
     ];
-    let rotation = rotation(rt.alloc(), &[1, 2, 3, 4], &edges, &[])?;
+    let given = tables(rt.alloc(), &[1, 2, 3, 4], &edges, &[])?;
+    let rotation = rotation(rt.alloc(), &given)?;
     let found = tour(rt.alloc(), &rotation, &[2])?;
     assert_eq!(rt; found.darts.as_slice(), [2, 3, 4, 5, 0, 1].as_slice());
     assert_eq!(rt;
@@ -196,7 +198,8 @@ fn the_rim_of_a_wheel_is_its_tree(rt: HostRuntime) -> Result<(), Fail> {
         (7, 5, 3, 3, 6, 0, 0),
         (8, 5, 4, 4, 7, 0, 0),
     ];
-    let rotation = rotation(rt.alloc(), &[1, 2, 3, 4, 5], &edges, &[])?;
+    let given = tables(rt.alloc(), &[1, 2, 3, 4, 5], &edges, &[])?;
+    let rotation = rotation(rt.alloc(), &given)?;
     let found = tour(rt.alloc(), &rotation, &[0])?;
     assert_eq!(rt;
         found.darts.as_slice(),
@@ -230,7 +233,8 @@ fn closed_and_parallel_edges_are_no_tree_edges(rt: HostRuntime) -> Result<(), Fa
         (3, 1, 2, -2, 1, 0, 0),
         (4, 2, 2, -3, -4, 0, 0),
     ];
-    let rotation = rotation(rt.alloc(), &[1, 2], &edges, &[])?;
+    let given = tables(rt.alloc(), &[1, 2], &edges, &[])?;
+    let rotation = rotation(rt.alloc(), &given)?;
     let found = tour(rt.alloc(), &rotation, &[2])?;
     assert_eq!(rt; found.darts.as_slice(), [2, 6, 7, 5, 3, 4, 0, 1].as_slice());
     assert_eq!(rt;

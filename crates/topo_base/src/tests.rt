@@ -7,15 +7,26 @@ fn numbers_are_spelled_in_one_way(rt: HostRuntime) -> Result<(), Fail> {
         ("0", Some(0), None, None),
         ("1", Some(1), Some(1), Some(1)),
         (
-            "2147483647",
-            Some(2_147_483_647),
-            Some(2_147_483_647),
-            Some(2_147_483_647),
+            "9223372036854775807",
+            Some(9_223_372_036_854_775_807),
+            Some(9_223_372_036_854_775_807),
+            Some(9_223_372_036_854_775_807),
+        ),
+        (
+            "2147483648",
+            Some(2_147_483_648),
+            Some(2_147_483_648),
+            Some(2_147_483_648),
         ),
         ("-1", None, None, Some(-1)),
-        ("-2147483647", None, None, Some(-2_147_483_647)),
-        ("2147483648", None, None, None),
-        ("-2147483648", None, None, None),
+        (
+            "-9223372036854775807",
+            None,
+            None,
+            Some(-9_223_372_036_854_775_807),
+        ),
+        ("9223372036854775808", None, None, None),
+        ("-9223372036854775808", None, None, None),
         ("99999999999999999999", None, None, None),
         ("", None, None, None),
         ("-", None, None, None),
@@ -40,10 +51,15 @@ fn numbers_are_spelled_in_one_way(rt: HostRuntime) -> Result<(), Fail> {
 
 #[test]
 fn signed_edges_hold_their_numbers(rt: HostRuntime) -> Result<(), Fail> {
-    for value in [0, -2_147_483_648] {
+    for value in [0, -9_223_372_036_854_775_808] {
         assert!(rt; Signed::new(value).is_none(), "{value}");
     }
-    for (value, edge) in [(1, 1), (-1, 1), (7, 7), (-2_147_483_647, 2_147_483_647)] {
+    for (value, edge) in [
+        (1, 1),
+        (-1, 1),
+        (7, 7),
+        (-9_223_372_036_854_775_807, 9_223_372_036_854_775_807),
+    ] {
         let signed = Signed::new(value).ok_or("no signed edge")?;
         assert_eq!(rt; signed.value(), value);
         assert_eq!(rt; signed.edge(), EdgeId(edge));

@@ -59,18 +59,18 @@ fn spellings_of_one_edge_table_give_its_rows(rt: HostRuntime) -> Result<(), Fail
 fn empty_fields_are_null_where_they_may_be(rt: HostRuntime) -> Result<(), Fail> {
     let nodes = read_nodes(
         rt.alloc(),
-        b"node_id,containing_face,geom\n1,,0101\n2147483647,0,\n7,2147483647,x\n",
+        b"node_id,containing_face,geom\n1,,0101\n9223372036854775807,0,\n7,2147483648,x\n",
     )?;
     let regions = read_regions(rt.alloc(), b"parent,region_id\n,1\n1,2\n\"\",3\n")?;
     let want_nodes = [
         NodeRow { id: 1, face: None },
         NodeRow {
-            id: 2_147_483_647,
+            id: 9_223_372_036_854_775_807,
             face: Some(0),
         },
         NodeRow {
             id: 7,
-            face: Some(2_147_483_647),
+            face: Some(2_147_483_648),
         },
     ];
     let want_regions = [
@@ -163,7 +163,7 @@ fn the_first_wrong_row_is_refused(rt: HostRuntime) -> Result<(), Fail> {
             bad(1, Column::EdgeId),
         ),
         (
-            "2147483647,1,2,2,-3,1,0\n2147483648,1,2,2,-3,1,0\n",
+            "9223372036854775807,1,2,2,-3,1,0\n9223372036854775808,1,2,2,-3,1,0\n",
             bad(2, Column::EdgeId),
         ),
         ("0,1,2,2,-3,1,0\n", bad(1, Column::EdgeId)),
@@ -172,7 +172,7 @@ fn the_first_wrong_row_is_refused(rt: HostRuntime) -> Result<(), Fail> {
         ("1,1,-2,2,-3,1,0\n", bad(1, Column::EndNode)),
         ("1,1,2,0,-3,1,0\n", bad(1, Column::NextLeftEdge)),
         (
-            "1,1,2,-2147483647,-2147483648,1,0\n",
+            "1,1,2,-9223372036854775807,-9223372036854775808,1,0\n",
             bad(1, Column::NextRightEdge),
         ),
         ("1,1,2,2,-3,NULL,0\n", bad(1, Column::LeftFace)),

@@ -1,14 +1,15 @@
-use Rattle.std.proofs.Common.{rules, ◌≡◌, ◌≤◌, get_or, arith, Ok, Err}
-use Rattle.islands.proofs.FaceNumbers.{found_at, not_missing, place_below}
+use Rattle.std.proofs.Common.{rules, ◌<◌, length, arith, Ok, Err}
+use Rattle.std.specs.Prelude.{◌^◌}
+use Rattle.islands.proofs.FaceNumbers.{found_at, not_missing}
 use Rattle.islands.proofs.numbers.face_number.Goals as goal
 
 pub overflow_cast-result : goal.overflow_cast-result
 overflow_cast-result c =
     let ids = c.args.ids.now in
     let at = found_at ids c.args.face (Ok c.in-Ok.place) c.requires.rising c.in-Ok.ensures.position in
-    let is : get_or ids c.in-Ok.place 0 ≡ c.args.face = at.1 in
-    let le : c.in-Ok.place ≤ get_or ids c.in-Ok.place 0 = place_below ids c.requires.rising c.in-Ok.place at.0 in
-    let small : c.in-Ok.place ≤ c.args.face = omega arith in
+    let inside : c.in-Ok.place < length ids = at.0 in
+    let few = c.requires.few in
+    let small : c.in-Ok.place < 2 ^ 32 = omega arith in
     search rules
 
 pub unreachable-requires : goal.unreachable-requires

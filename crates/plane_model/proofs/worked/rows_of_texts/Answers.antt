@@ -41,6 +41,10 @@ pub returns-clause-too_great : goal.returns-clause-too_great
 unfolding records_from strip_bom next_record digits_behind rows_from
 returns-clause-too_great c = refl
 
+pub returns-clause-beyond_32_bits : goal.returns-clause-beyond_32_bits
+unfolding records_from strip_bom next_record digits_behind rows_from
+returns-clause-beyond_32_bits c = refl
+
 pub returns-clause-empty_end : goal.returns-clause-empty_end
 unfolding records_from strip_bom next_record digits_behind rows_from
 returns-clause-empty_end c = refl
