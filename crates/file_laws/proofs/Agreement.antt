@@ -1,7 +1,7 @@
 -- The map of whole contents agrees with the code at each position.
-use Rattle.std.specs.Prelude.{ℤ, pos, neg_ℤ, not, map, flat_map, unwrap_or, slice_index, nat_le}
-use Rattle.std.proofs.Common.{◌≡◌, ℕ, zero, suc, ◌*◌, ◌<◌, ◌⊎◌, inl, inr, Bool, true, false, ◌&&◌, ◌||◌, List, [], ◌∷◌, ◌++◌, length, get_or, refl, ap, sym, ◌∙◌, arith, subst, Option, Some, None, ◌==◌, IsTrue}
-use Rattle.std.proofs.lemmas.Bool.{cases_Bool, and_parts, eqb-true, eq-eqb, leb-true, or_left, or_right, or_cases}
+use Rattle.std.specs.Prelude.{ℤ, pos, neg_ℤ, not, map, flat_map, unwrap_or, slice_index}
+use Rattle.std.proofs.Common.{◌≡◌, ℕ, ◌+◌, zero, suc, ◌*◌, ◌<◌, ◌⊎◌, inl, inr, Bool, true, false, ◌||◌, List, [], ◌∷◌, ◌++◌, length, get_or, refl, ap, sym, ◌∙◌, arith, subst, Some, ◌==◌, IsTrue}
+use Rattle.std.proofs.lemmas.Bool.{cases_Bool, and_parts, eqb-true, eq-eqb, or_left, or_right, or_cases}
 use Rattle.topo_base.specs.SignedEdge.{edge_of as edge_id, is_forward, same_edge}
 use Rattle.plane_model.specs.declared.rows.EdgeRow.{EdgeRow}
 use Rattle.plane_model.specs.Sets.{rising, has, has_edge}
@@ -11,8 +11,8 @@ use Rattle.code_laws.specs.Numbers.{edge_of}
 use Rattle.code_laws.specs.Laws.{MateLaws}
 use Rattle.code_laws.proofs.Places.{cases_kind, over_other, over_mate}
 use Rattle.code_laws.proofs.Edges.{one_edge, edge_there}
-use Rattle.bit_words.specs.Lists.{is_at}
-use Rattle.id_names.specs.Names.{number_of, is_names, is_id}
+use Rattle.id_names.specs.Names.{number_of, is_names}
+use Rattle.id_names.proofs.NumberLaws.{number_of-at, names_from_test}
 use Rattle.topo_base.specs.declared.id.TheConstants.{LARGEST_ID}
 use Rattle.code_laws.proofs.Sound.{sound_parts}
 use Rattle.file_laws.specs.Lawful.{is_whole, has_sizes, all_of, size_tests, whole_tests}
@@ -21,7 +21,7 @@ use Rattle.file_laws.specs.MapOfFile.{signed_at, is_forward_at, edge_row, rows_o
 use Rattle.file_laws.specs.Agreement.{Agrees}
 use Rattle.plane_model.proofs.Sorting.{rising-has}
 use Rattle.plane_model.proofs.SetLaws.{same_is, same_self}
-use Rattle.file_laws.proofs.Lists.{has-index, index-has, has-positions, list_all-at}
+use Rattle.file_laws.proofs.Lists.{has-index, index-has, has-positions}
 use Rattle.file_laws.proofs.Bridge.{IsSeen, signed, signed-id, has-rising, e_in, law, forward_mate, forward_is, reversed, origins, sides, nexts}
 
 -- the next of the mate is the turn
@@ -180,17 +180,9 @@ module _ (c : Contents) (w : IsSeen c) where
         turns = turns;
       }
 
-is_at-some : (o : Option ℕ) (j : ℕ) → is_at o j ≡ true → o ≡ Some j
-is_at-some None j h = cc
-is_at-some (Some i) j h = ap Some (eqb-true i j h)
-
-names_at : (ids : List ℕ) → is_names ids ≡ true → (x : ℕ) → x < length ids → (0 < slice_index ids x) × (number_of ids (slice_index ids x) ≡ Some x)
-unfolding is_names
-names_at ids h x l =
-    let t = list_all-at (λ x. is_id (slice_index ids x) && is_at (number_of ids (slice_index ids x)) x) 0 (length ids) h x (omega arith) (omega (arith, l)) in
-    let p = and_parts (is_id (slice_index ids x)) (is_at (number_of ids (slice_index ids x)) x) t in
-    let q = and_parts (nat_le 1 (slice_index ids x)) (nat_le (slice_index ids x) LARGEST_ID) p.0 in
-    (leb-true 1 (slice_index ids x) q.0, is_at-some _ x p.1)
+-- each number is the one that its id has
+own_number : (ids : List ℕ) → is_names (LARGEST_ID + 1) ids ≡ true → (x : ℕ) → x < length ids → (0 < slice_index ids x) × (number_of ids (slice_index ids x) ≡ Some x)
+own_number ids h x l = let n = names_from_test (LARGEST_ID + 1) ids h in ((n.in_range x l).0, number_of-at ids x (slice_index ids x) n.distinct l refl)
 
 -- test i of some that all hold
 pub test_at : (tests : List Bool) (i : ℕ) → all_of tests ≡ true → get_or tests i true ≡ true
@@ -206,7 +198,7 @@ sizes_at c h = eqb-true _ _ (test_at (size_tests c) 0 h)
 pub whole_seen : (c : Contents) → is_whole c ≡ true → IsSeen c
 unfolding is_whole
 whole_seen c h =
-    let names = names_at c.edges (test_at (whole_tests c) 3 h) in
+    let names = own_number c.edges (test_at (whole_tests c) 3 h) in
     record { sound = sound_parts c.code (test_at (whole_tests c) 1 h); sizes = sizes_at c (test_at (whole_tests c) 0 h); back = λ x l. (names x l).1; least = λ x l. (names x l).0 }
 
 -- the map of whole contents agrees with their code

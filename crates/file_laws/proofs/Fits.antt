@@ -49,8 +49,9 @@ module _ (c : Contents) (w : WholeParts c) where
   signed_fits p l =
       let id = slice_index c.edges (edge_of c.code p) in
       let r = w.edge_names.in_range (edge_of c.code p) (e_in c w.seen p l) in
+      let last : id ≤ LARGEST_ID = omega (arith, r.1) in
       let e : edge_id (signed (is_forward_at c p) id) ≡ id = signed-id (is_forward_at c p) id in
-      rw e (and_from _ _ (lt-ltb _ _ (omega (arith, r.0))) (le-leb _ _ r.1))
+      rw e (and_from _ _ (lt-ltb _ _ (omega (arith, r.0))) (le-leb _ _ last))
 
   -- the forward position of an edge
   pub forward_in : (e : ℕ) → e < length c.edges → forward_position c e < length c.code.a

@@ -32,6 +32,6 @@ in_range c w =
     let lm : length t.members ≤ 16777217 = omega (arith, mf, rf, fewer) in
     let n = each_row (λ (r : NodeRow). is_id r.id && is_none_or is_face_id r.face) c.nodes (λ id. node_row c id (unwrap_or (number_of c.nodes id) 0)) (λ x l. node_row_fits c w x l (unwrap_or (number_of c.nodes (slice_index c.nodes x)) 0)) in
     let e = each_row is_edge_in_range c.edges (λ id. edge_row c id (unwrap_or (number_of c.edges id) 0)) (edge_fits c w) in
-    let f = each_row (λ (r : FaceRow). is_face_id r.id) c.faces (λ (id : ℕ). record { id = id }) (λ x l. le-leb _ _ (w.face_names.in_range x l).1) in
+    let f = each_row (λ (r : FaceRow). is_face_id r.id) c.faces (λ (id : ℕ). record { id = id }) (λ x l. let r = w.face_names.in_range x l in le-leb _ _ (omega (arith, r.1))) in
     and_from _ _ (and_from _ _ (and_from _ _ (and_from _ _ (and_from _ _ (and_from _ _ (and_from _ _ (and_from _ _ (and_from _ _ n e) f) (regions_fit c w)) (members_fit c w))
     (le-leb _ _ ln)) (le-leb _ _ le)) (le-leb _ _ lf)) (le-leb _ _ lr)) (le-leb _ _ lm)

@@ -21,3 +21,6 @@ pub mod Sizes
 pub mod Positions
 pub mod Following
 pub mod FiveCounts
+pub mod Rooms
+pub mod Largest
+pub mod Wanted

@@ -8,7 +8,7 @@ use Rattle.plane_model.specs.PlaneMap.{PlaneMap, map_of}
 use Rattle.plane_model.proofs.Sorting.{rising-has}
 use Rattle.bit_words.specs.Bits.{rank}
 use Rattle.code_laws.proofs.Edges.{half}
-use Rattle.id_names.proofs.NameLaws.{number_of-at}
+use Rattle.id_names.proofs.NumberLaws.{number_of-at}
 use Rattle.region_tree.specs.Nesting.{region_at}
 use Rattle.region_tree.specs.Numbering.{AreNumbered}
 use Rattle.region_tree.proofs.Stacks.{balanced_all}
@@ -56,7 +56,7 @@ module _ (c : Contents) (w : WholeParts c) where
   place_back (suc s) l =
       let l' : s < length c.faces = omega (arith, l) in
       let none = some_face s l' in
-      ap (place_of_face c) (face_next s) ∙ rw none (ap (λ o. unwrap_or o 0 + 1) (number_of-at c.faces s (slice_index c.faces s) w.face_names l' refl) ∙ omega arith)
+      ap (place_of_face c) (face_next s) ∙ rw none (ap (λ o. unwrap_or o 0 + 1) (number_of-at c.faces s (slice_index c.faces s) w.face_names.distinct l' refl) ∙ omega arith)
 
   listed : (place : ℕ) → place ≤ length c.faces → has (0 ∷ rising c.faces) (face_at_place c place) ≡ true
   listed zero l = refl

@@ -20,7 +20,7 @@ use Rattle.code_laws.proofs.Apart.{fewer}
 use Rattle.code_laws.proofs.Edges.{half}
 use Rattle.code_laws.proofs.Places.{select-placed}
 use Rattle.id_names.specs.Names.{number_of}
-use Rattle.id_names.proofs.NameLaws.{number_of-at}
+use Rattle.id_names.proofs.NumberLaws.{number_of-at}
 use Rattle.file_laws.specs.Contents.{Contents}
 use Rattle.region_tree.specs.Nesting.{parent_number}
 use Rattle.file_laws.specs.MapOfFile.{region_row, member_row, place_of_face, rows_of_contents}
@@ -126,7 +126,7 @@ module _ (c : Contents) (w : WholeParts c) where
   regions_apart = rw region_ids (rising_apart c.regions (names_apart c.regions w.region_names))
 
   number_at : (x : ℕ) → x < length c.regions → unwrap_or (number_of c.regions (slice_index c.regions x)) 0 ≡ x
-  number_at x l = ap (λ o. unwrap_or o 0) (number_of-at c.regions x (slice_index c.regions x) w.region_names l refl)
+  number_at x l = ap (λ o. unwrap_or o 0) (number_of-at c.regions x (slice_index c.regions x) w.region_names.distinct l refl)
 
   region_row_at : (x : ℕ) → x < length c.regions → m.regions.at (slice_index c.regions x) ≡ Some (region_row c (slice_index c.regions x) x).parent
   region_row_at x l =

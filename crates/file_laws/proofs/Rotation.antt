@@ -30,7 +30,7 @@ use Rattle.code_laws.proofs.Beside.{next_ring}
 use Rattle.code_laws.proofs.Numbered.{round_below}
 use Rattle.code_laws.proofs.Selects.{node_within, node_none}
 use Rattle.id_names.specs.Names.{number_of}
-use Rattle.id_names.proofs.NameLaws.{number_of-at}
+use Rattle.id_names.proofs.NumberLaws.{number_of-at}
 use Rattle.file_laws.specs.Contents.{Contents, component_count}
 use Rattle.file_laws.specs.MapOfFile.{signed_at, node_at, face_at, face_at_place, place_of_ring, is_forward_at, node_row, edge_row, joined_count, rows_of_contents}
 use Rattle.file_laws.specs.Agreement.{Agrees}
@@ -142,7 +142,7 @@ module _ (c : Contents) (w : WholeParts c) where
   node_row_at x l =
       let id = slice_index c.nodes x in
       let f = row_found (λ (r : NodeRow). r.id) (λ id. node_row c id (unwrap_or (number_of c.nodes id) 0)) (λ y. refl) (rising c.nodes) id (has-rising id c.nodes (has-index c.nodes x l)) in
-      let n = number_of-at c.nodes x id w.node_names l refl in
+      let n = number_of-at c.nodes x id w.node_names.distinct l refl in
       ap (option_map (λ (r : NodeRow). r.face)) f ∙ ap (λ o. Some (node_row c id (unwrap_or o 0)).face) n
 
   edge_row_there : (e : ℕ) → e < length c.edges → is_some (m.edges.at (slice_index c.edges e)) ≡ true

@@ -1,22 +1,28 @@
--- What the sections of a lawful file hold is whole.
+-- What the sections of a lawful file hold is whole, and has room in the file's form.
 use Rattle.std.specs.Prelude.{nat_lt, is_none, option_map}
-use Rattle.std.proofs.Common.{◌≡◌, ℕ, ◌+◌, ◌*◌, ◌≤◌, true, List, length, refl, sym, ◌∙◌, arith, Option, None, ◌==◌, IsTrue}
+use Rattle.std.proofs.Common.{◌≡◌, ℕ, ◌+◌, ◌*◌, ◌^◌, ◌≤◌, true, List, length, refl, ap, ◌∙◌, arith, subst, Option, None, ◌==◌, IsTrue}
 use Rattle.std.proofs.lemmas.Bool.{and_from, eq-eqb, le-leb, lt-ltb, leb-true, and_parts}
 use Rattle.std.proofs.lemmas.List.FromFn.{length-map-range_with_len}
+use Rattle.topo_base.specs.declared.id.TheConstants.{LARGEST_ID}
 use Rattle.bit_words.specs.Lists.{tabulate}
 use Rattle.bit_words.specs.Bits.{bits_in, fields_in}
+use Rattle.bit_words.specs.Digits.{digits}
 use Rattle.parens.specs.Matching.{balance_fault}
 use Rattle.code_laws.specs.SeqFault.{seq_fault, is_sound}
 use Rattle.code_laws.specs.Numbers.{tree_edges}
-use Rattle.id_names.specs.Names.{is_names}
-use Rattle.id_names.proofs.NameLaws.{right_names, names_pass}
-use Rattle.file_laws.specs.Layout.{HeaderCounts, counts_in, words_of, sections, section, bits_at, fields_at, face_count, node_count}
-use Rattle.file_laws.specs.Contents.{Contents, component_count, contents_of}
-use Rattle.file_laws.specs.Faults.{count_fault, directories_fault, names_fault, all_names_fault, places_fault, start_fault, member_fault, regions_fault, padding_fault}
-use Rattle.file_laws.specs.Lawful.{is_lawful, is_whole, has_sizes, content_fault}
+use Rattle.id_names.specs.Names.{AreDistinctIds, is_names}
+use Rattle.id_names.specs.RisingNames.{ids_by_number}
+use Rattle.id_names.proofs.NameLaws.{right_names}
+use Rattle.id_names.proofs.NumberLaws.{names_pass}
+use Rattle.file_laws.specs.Layout.{HeaderCounts, counts_in, words_of, sections, section, bits_at, fields_at, face_count, node_count, id_bits, low_width}
+use Rattle.file_laws.specs.Contents.{Contents, component_count}
+use Rattle.file_laws.specs.Held.{names_at, ids_at, contents_of}
+use Rattle.file_laws.specs.Faults.{count_fault, directories_fault, names_fault, all_names_fault, places_fault, start_fault, member_fault, regions_fault, padding_fault, told_in}
+use Rattle.file_laws.specs.Lawful.{is_lawful, is_whole, has_sizes, has_room_for, content_fault}
 use Rattle.file_laws.specs.declared.fault.FileFault.TheVariants as fault
 use Rattle.file_laws.proofs.Lengths.{no_faults, first_none, unless-true}
 use Rattle.file_laws.proofs.Whole.{option_none}
+use Rattle.file_laws.proofs.Rooms.{bound_is, bound_small, names_wide, room_of, rooms_of}
 
 pub length-bits : (words : List ℕ) (number : ℕ) → length (bits_at words number) ≡ (section (counts_in words) number).count
 unfolding bits_at bits_in tabulate
@@ -26,6 +32,11 @@ pub length-fields : (words : List ℕ) (number : ℕ) → length (fields_at word
 unfolding fields_at fields_in tabulate
 length-fields words number = length-map-range_with_len _ 0 (section (counts_in words) number).count
 
+-- as many ids as places
+pub length-ids : (words : List ℕ) (number : ℕ) → length (ids_at words number) ≡ (section (counts_in words) (number + 4)).count
+unfolding ids_at names_at ids_by_number tabulate
+length-ids words number = length-map-range_with_len _ 0 (length (fields_at words (number + 4))) ∙ length-fields words (number + 4)
+
 -- how many fields each section has
 pub record SectionsHave (words : List ℕ) (c : HeaderCounts) : Type 0 where
   pub a : length (bits_at words 1) ≡ 2 * c.edges
@@ -33,18 +44,14 @@ pub record SectionsHave (words : List ℕ) (c : HeaderCounts) : Type 0 where
   pub dual : length (bits_at words 6) ≡ 2 * face_count c
   pub starts : length (fields_at words 9) ≡ c.components + 1
   pub forward : length (bits_at words 10) ≡ c.edges
-  pub nodes : length (fields_at words 11) ≡ node_count c
-  pub node_order : length (fields_at words 12) ≡ node_count c
-  pub edges : length (fields_at words 13) ≡ c.edges
-  pub edge_order : length (fields_at words 14) ≡ c.edges
-  pub faces : length (fields_at words 15) ≡ face_count c
-  pub face_order : length (fields_at words 16) ≡ face_count c
+  pub nodes : length (ids_at words 30) ≡ node_count c
+  pub edges : length (ids_at words 40) ≡ c.edges
+  pub faces : length (ids_at words 50) ≡ face_count c
   pub places : length (fields_at words 17) ≡ c.components
   pub place_order : length (fields_at words 18) ≡ c.components
   pub isolated : length (fields_at words 19) ≡ c.isolated
   pub region_bits : length (bits_at words 20) ≡ 2 * c.regions
-  pub regions : length (fields_at words 23) ≡ c.regions
-  pub region_order : length (fields_at words 24) ≡ c.regions
+  pub regions : length (ids_at words 60) ≡ c.regions
   pub members : length (fields_at words 25) ≡ face_count c + 1
 
 pub sections_have : (words : List ℕ) → SectionsHave words (counts_in words)
@@ -56,18 +63,14 @@ sections_have words =
       dual = length-bits words 6;
       starts = length-fields words 9;
       forward = length-bits words 10;
-      nodes = length-fields words 11;
-      node_order = length-fields words 12;
-      edges = length-fields words 13;
-      edge_order = length-fields words 14;
-      faces = length-fields words 15;
-      face_order = length-fields words 16;
+      nodes = length-ids words 30;
+      edges = length-ids words 40;
+      faces = length-ids words 50;
       places = length-fields words 17;
       place_order = length-fields words 18;
       isolated = length-fields words 19;
       region_bits = length-bits words 20;
-      regions = length-fields words 23;
-      region_order = length-fields words 24;
+      regions = length-ids words 60;
       members = length-fields words 25;
     }
 
@@ -78,6 +81,10 @@ pub record CountsFit (c : HeaderCounts) : Type 0 where
   pub components : c.components ≤ c.edges
   pub nodes : node_count c ≤ 16777216
   pub regions : c.regions ≤ 16777216
+  pub node_back : c.node_back ≤ node_count c
+  pub edge_back : c.edge_back ≤ c.edges
+  pub face_back : c.face_back ≤ face_count c
+  pub region_back : c.region_back ≤ c.regions
 
 pub counts_fit : (c : HeaderCounts) → count_fault c ≡ None → CountsFit c
 unfolding count_fault
@@ -87,12 +94,20 @@ counts_fit c h =
     let f8 = first_none _ _ f7.1 in
     let f9 = first_none _ _ f8.1 in
     let f10 = first_none _ _ f9.1 in
+    let f11 = first_none _ _ f10.1 in
+    let f12 = first_none _ _ f11.1 in
+    let f13 = first_none _ _ f12.1 in
+    let f14 = first_none _ _ f13.1 in
     record {
       edges = leb-true _ _ (unless-true _ _ f6.0);
       tree = leb-true _ _ (unless-true _ _ f7.0);
       components = leb-true _ _ (and_parts _ _ (unless-true _ _ f8.0)).0;
       nodes = leb-true _ _ (unless-true _ _ f9.0);
       regions = leb-true _ _ (unless-true _ _ f10.0);
+      node_back = leb-true _ _ (unless-true _ _ f11.0);
+      edge_back = leb-true _ _ (unless-true _ _ f12.0);
+      face_back = leb-true _ _ (unless-true _ _ f13.0);
+      region_back = leb-true _ _ (unless-true _ _ f14.0);
     }
 
 -- the parts of the last faults
@@ -118,13 +133,27 @@ content_fits words h =
     let i = first_none (padding_fault words) _ g.1 in
     record { sequence = option_none fault.Sequence (seq_fault c.code) a.0; directories = b.0; names = d.0; places = e.0; start = f.0; regions = g.0; padding = i.0 }
 
-names_fit : (words : List ℕ) (number : ℕ) → length (fields_at words (number + 1)) ≡ length (fields_at words number) → names_fault words number ≡ None → is_names (fields_at words number) ≡ true
-names_fit words number same h = names_pass (fields_at words number) (right_names (fields_at words number) (fields_at words (number + 1)) same h)
+-- the ids of c names without fault are below the bound of their form
+names_right : (words : List ℕ) (form number c : ℕ) → (section (counts_in words) (number + 4)).count ≡ c → (section (counts_in words) (number + 3)).width ≡ low_width form c → c ≤ 16777216
+    → names_fault words number ≡ None → AreDistinctIds (2 ^ id_bits form) (ids_at words number)
+unfolding names_fault ids_at names_at
+names_right words form number c many wide few h =
+    let places : length (fields_at words (number + 4)) ≡ c = length-fields words (number + 4) ∙ many in
+    let names = right_names (names_at words number) (fields_at words (number + 2)) (fields_at words (number + 6)) h in
+    subst (λ bound. AreDistinctIds bound (ids_at words number))
+    (ap (λ n. 2 ^ (digits n + (section (counts_in words) (number + 3)).width)) places ∙ ap (λ w. 2 ^ (digits c + w)) wide ∙ bound_is form c few) names
+
+-- the ids of the four kinds of names of some words
+pub record NamesFit (form : ℕ) (words : List ℕ) : Type 0 where
+  pub nodes : AreDistinctIds (2 ^ id_bits form) (ids_at words 30)
+  pub edges : AreDistinctIds (2 ^ id_bits form) (ids_at words 40)
+  pub faces : AreDistinctIds (2 ^ id_bits form) (ids_at words 50)
+  pub regions : AreDistinctIds (2 ^ id_bits form) (ids_at words 60)
 
 pub none-is : {X : Type 0} (o : Option X) → o ≡ None → is_none o ≡ true
 none-is o h = rw h refl
 
-pub whole_from : (c : Contents) → has_sizes c ≡ true → is_sound c.code ≡ true → is_names c.nodes ≡ true → is_names c.edges ≡ true → is_names c.faces ≡ true → is_names c.regions ≡ true
+pub whole_from : (c : Contents) → has_sizes c ≡ true → is_sound c.code ≡ true → is_names (LARGEST_ID + 1) c.nodes ≡ true → is_names (LARGEST_ID + 1) c.edges ≡ true → is_names (LARGEST_ID + 1) c.faces ≡ true → is_names (LARGEST_ID + 1) c.regions ≡ true
     → places_fault c ≡ None → start_fault c ≡ None → balance_fault c.region_bits 0 (length c.region_bits) ≡ None → member_fault c ≡ None → is_whole c ≡ true
 unfolding is_whole
 whole_from c sizes sound nodes edges faces regions places start balance members =
@@ -165,29 +194,59 @@ module _ (words : List ℕ) (counts : CountsFit (counts_in words)) (content : Co
   sound : is_sound (contents_of words).code ≡ true
   sound = and_from _ _ (and_from _ _ some_start each_position) (none-is _ content.sequence)
 
-  pub whole_words : is_whole (contents_of words) ≡ true
-  unfolding contents_of all_names_fault regions_fault
-  whole_words =
-      let s = have in
+  names_fit : NamesFit (counts_in words).form words
+  unfolding all_names_fault regions_fault section sections
+  names_fit =
+      let form = (counts_in words).form in
+      let k = counts in
       let c = contents_of words in
-      let n11 = first_none (option_map (fault.Name 11) (names_fault words 11)) _ content.names in
-      let n13 = first_none (option_map (fault.Name 13) (names_fault words 13)) _ n11.1 in
-      let n15 = first_none (option_map (fault.Name 15) (names_fault words 15)) _ n13.1 in
+      let n30 = first_none (option_map (told_in fault.Name 30) (names_fault words 30)) _ content.names in
+      let n40 = first_none (option_map (told_in fault.Name 40) (names_fault words 40)) _ n30.1 in
+      let n50 = first_none (option_map (told_in fault.Name 50) (names_fault words 50)) _ n40.1 in
       let r20 = first_none (option_map (fault.RegionPart 20) (balance_fault c.region_bits 0 (length c.region_bits))) _ content.regions in
       let r21 = first_none _ _ r20.1 in
       let r22 = first_none _ _ r21.1 in
-      let r23 = first_none (option_map (fault.RegionPart 23) (names_fault words 23)) _ r22.1 in
-      let r25 = first_none (option_map (fault.RegionPart 25) (member_fault c)) _ r23.1 in
-      whole_from c sizes_pass sound
-      (names_fit words 11 (s.node_order ∙ sym s.nodes) (option_none (fault.Name 11) (names_fault words 11) n11.0))
-      (names_fit words 13 (s.edge_order ∙ sym s.edges) (option_none (fault.Name 13) (names_fault words 13) n13.0))
-      (names_fit words 15 (s.face_order ∙ sym s.faces) (option_none (fault.Name 15) (names_fault words 15) n15.0))
-      (names_fit words 23 (s.region_order ∙ sym s.regions) (option_none (fault.RegionPart 23) (names_fault words 23) r23.0))
+      let r60 = first_none (option_map (told_in fault.RegionPart 60) (names_fault words 60)) _ r22.1 in
+      record {
+        nodes = names_right words form 30 (node_count (counts_in words)) refl refl k.nodes (option_none (told_in fault.Name 30) (names_fault words 30) n30.0);
+        edges = names_right words form 40 (counts_in words).edges refl refl k.edges (option_none (told_in fault.Name 40) (names_fault words 40) n40.0);
+        faces = names_right words form 50 (face_count (counts_in words)) refl refl (omega (arith, k.edges)) (option_none (told_in fault.Name 50) (names_fault words 50) n50.0);
+        regions = names_right words form 60 (counts_in words).regions refl refl k.regions (option_none (told_in fault.RegionPart 60) (names_fault words 60) r60.0);
+      }
+
+  pub whole_words : is_whole (contents_of words) ≡ true
+  unfolding contents_of regions_fault
+  whole_words =
+      let c = contents_of words in
+      let ids = λ (xs : List ℕ) (names : AreDistinctIds (2 ^ id_bits (counts_in words).form) xs). names_pass (LARGEST_ID + 1) xs (names_wide _ _ xs (bound_small (counts_in words).form) names) in
+      let n = names_fit in
+      let r20 = first_none (option_map (fault.RegionPart 20) (balance_fault c.region_bits 0 (length c.region_bits))) _ content.regions in
+      let r21 = first_none _ _ r20.1 in
+      let r22 = first_none _ _ r21.1 in
+      let r60 = first_none _ _ r22.1 in
+      let r25 = first_none (option_map (fault.RegionPart 25) (member_fault c)) _ r60.1 in
+      whole_from c sizes_pass sound (ids (ids_at words 30) n.nodes) (ids (ids_at words 40) n.edges) (ids (ids_at words 50) n.faces) (ids (ids_at words 60) n.regions)
       content.places content.start
       (option_none (fault.RegionPart 20) (balance_fault c.region_bits 0 (length c.region_bits)) r20.0)
       (option_none (fault.RegionPart 25) (member_fault c) r25.0)
+
+  pub room_words : has_room_for (counts_in words).form (contents_of words) ≡ true
+  unfolding contents_of
+  room_words =
+      let form = (counts_in words).form in
+      let n = names_fit in
+      rooms_of form (contents_of words) (room_of form (ids_at words 30) n.nodes) (room_of form (ids_at words 40) n.edges) (room_of form (ids_at words 50) n.faces) (room_of form (ids_at words 60) n.regions)
 
 pub lawful_whole : (bytes : List ℕ) → IsTrue (is_lawful bytes) → IsTrue (is_whole (contents_of (words_of bytes)))
 lawful_whole bytes h =
     let n = no_faults bytes h in
     whole_words (words_of bytes) (counts_fit (counts_in (words_of bytes)) n.counts) (content_fits (words_of bytes) n.content)
+
+-- what a lawful file holds has room in the file's form
+pub lawful_room : (bytes : List ℕ) → IsTrue (is_lawful bytes) → IsTrue (has_room_for (counts_in (words_of bytes)).form (contents_of (words_of bytes)))
+lawful_room bytes h =
+    let n = no_faults bytes h in
+    room_words (words_of bytes) (counts_fit (counts_in (words_of bytes)) n.counts) (content_fits (words_of bytes) n.content)
+
+pub old_room : (bytes : List ℕ) → IsTrue (is_lawful bytes) → (counts_in (words_of bytes)).form ≡ 1 → IsTrue (has_room_for 1 (contents_of (words_of bytes)))
+old_room bytes h one = subst (λ form. IsTrue (has_room_for form (contents_of (words_of bytes)))) one (lawful_room bytes h)

@@ -15,7 +15,8 @@ use Rattle.plane_model.specs.Consistent.{is_consistent, size}
 use Rattle.plane_model.specs.InRange.{is_in_range}
 use Rattle.id_names.specs.Names.{number_of}
 use Rattle.file_laws.specs.Layout.{counts_in, words_of}
-use Rattle.file_laws.specs.Contents.{Contents, contents_of}
+use Rattle.file_laws.specs.Contents.{Contents}
+use Rattle.file_laws.specs.Held.{contents_of}
 use Rattle.file_laws.specs.MapOfFile.{edge_row, region_row, joined_count, rows_of_contents}
 use Rattle.file_laws.specs.Lawful.{is_lawful, map_of_file, file_size}
 use Rattle.file_laws.proofs.Lists.{keys_kept, length-rising}

@@ -5,6 +5,7 @@ use Rattle.std.specs.List.{range_with_len}
 use Rattle.std.proofs.lemmas.Bool.{cases_lt, and_parts, eqb-true, eq-eqb, leb-true, ltb-true, ne_eqb, not-true, not-false, and_from, both_ways, false_from_ne_true}
 use Rattle.std.proofs.lemmas.List.{get_or_past}
 use Rattle.topo_base.specs.SignedEdge.{comes_before}
+use Rattle.topo_base.specs.declared.id.TheConstants.{LARGEST_ID}
 use Rattle.bit_words.proofs.Finds.{none-find}
 use Rattle.parens.specs.Matching.{balance_fault}
 use Rattle.parens.proofs.Balances.{IsBalanced, balanced-from}
@@ -12,7 +13,7 @@ use Rattle.code_laws.specs.Code.{start_of}
 use Rattle.code_laws.specs.Numbers.{ring_of, is_outer, first_of_edge, tree_edges}
 use Rattle.code_laws.specs.declared.ring_number.RingNumber.TheVariants.{Outer}
 use Rattle.id_names.specs.Names.{AreDistinctIds}
-use Rattle.id_names.proofs.NameLaws.{names_from_test}
+use Rattle.id_names.proofs.NumberLaws.{names_from_test}
 use Rattle.file_laws.specs.Contents.{Contents, component_count}
 use Rattle.file_laws.specs.MapOfFile.{signed_at}
 use Rattle.file_laws.specs.Faults.{place_fault, order_fault, isolated_fault, places_fault, start_fault, member_fault, is_place, begins_before, is_smallest, is_ordered, is_isolated}
@@ -30,6 +31,7 @@ pub record SizesFit (c : Contents) : Type 0 where
   pub nodes : length c.nodes ≡ component_count c + tree_edges c.code + length c.isolated
   pub faces : length c.faces + tree_edges c.code ≡ length c.edges
   pub orders : length c.place_order ≡ component_count c
+  pub few_components : component_count c ≤ length c.edges
   pub few_edges : length c.edges ≤ 16777216
   pub few_nodes : length c.nodes ≤ 16777216
   pub few_regions : length c.regions ≤ 16777216
@@ -43,15 +45,15 @@ pub record HasPlace (c : Contents) (j : ℕ) : Type 0 where
 pub record WholeParts (c : Contents) : Type 0 where
   pub seen : IsSeen c
   pub sizes : SizesFit c
-  pub node_names : AreDistinctIds c.nodes
-  pub edge_names : AreDistinctIds c.edges
-  pub face_names : AreDistinctIds c.faces
+  pub node_names : AreDistinctIds (LARGEST_ID + 1) c.nodes
+  pub edge_names : AreDistinctIds (LARGEST_ID + 1) c.edges
+  pub face_names : AreDistinctIds (LARGEST_ID + 1) c.faces
   pub placed : (j : ℕ) → j < component_count c → HasPlace c j
   pub order : (j : ℕ) → j < component_count c → slice_index c.place_order j < component_count c
   pub isolated : (j : ℕ) → j < length c.isolated → slice_index c.isolated j ≤ length c.faces
   -- no position of an outer ring has a smaller signed edge than the component's start
   pub smallest : (j p : ℕ) → j < component_count c → p < length c.code.a → ring_of c.code p ≡ Outer j → comes_before (signed_at c p) (signed_at c (start_of c.code j)) ≡ false
-  pub region_names : AreDistinctIds c.regions
+  pub region_names : AreDistinctIds (LARGEST_ID + 1) c.regions
   pub regions_nest : IsBalanced c.region_bits
   pub members : (x : ℕ) → slice_index c.members x ≤ length c.regions
 
@@ -73,6 +75,7 @@ module _ (c : Contents) where
         nodes = eqb-true _ _ (test_at (size_tests c) 3 h);
         faces = eqb-true _ _ (test_at (size_tests c) 4 h);
         orders = eqb-true _ _ (test_at (size_tests c) 5 h);
+        few_components = leb-true _ _ (test_at (size_tests c) 8 h);
         few_edges = leb-true _ _ (test_at (size_tests c) 9 h);
         few_nodes = leb-true _ _ (test_at (size_tests c) 10 h);
         few_regions = omega (arith, few);
@@ -132,14 +135,14 @@ module _ (c : Contents) where
       record {
         seen = whole_seen c h;
         sizes = sizes;
-        node_names = names_from_test c.nodes (test_at (whole_tests c) 2 h);
-        edge_names = names_from_test c.edges (test_at (whole_tests c) 3 h);
-        face_names = names_from_test c.faces (test_at (whole_tests c) 4 h);
+        node_names = names_from_test (LARGEST_ID + 1) c.nodes (test_at (whole_tests c) 2 h);
+        edge_names = names_from_test (LARGEST_ID + 1) c.edges (test_at (whole_tests c) 3 h);
+        face_names = names_from_test (LARGEST_ID + 1) c.faces (test_at (whole_tests c) 4 h);
         placed = has_place places.0;
         order = order_at places.1;
         isolated = isolated_place places.2;
         smallest = smallest_at (none-is_none (start_fault c) (test_at (whole_tests c) 7 h));
-        region_names = names_from_test c.regions (test_at (whole_tests c) 5 h);
+        region_names = names_from_test (LARGEST_ID + 1) c.regions (test_at (whole_tests c) 5 h);
         regions_nest = balanced-from c.region_bits (none-is_none (balance_fault c.region_bits 0 (length c.region_bits)) (test_at (whole_tests c) 8 h));
         members = member_within (none-is_none (member_fault c) (test_at (whole_tests c) 9 h));
       }

@@ -1,7 +1,6 @@
 -- What a file's sections hold, whatever its form. The map that a file stands for is made from this alone.
 use Rattle.std.specs.Prelude.{ℕ, Bool, List, length}
 use Rattle.code_laws.specs.Code.{Code}
-use Rattle.file_laws.specs.Layout.{bits_at, fields_at}
 
 pub record Contents : Type 0 where
   pub code : Code
@@ -25,23 +24,6 @@ pub record Contents : Type 0 where
 
 abbrev pub component_count : Contents → ℕ
 component_count c = length c.places
-
--- what the sections of these words hold
-unfoldable pub contents_of : List ℕ → Contents
-contents_of words =
-    record {
-      code = record { a = bits_at words 1; tree = bits_at words 3; dual = bits_at words 6; starts = fields_at words 9 };
-      forward = bits_at words 10;
-      nodes = fields_at words 11;
-      edges = fields_at words 13;
-      faces = fields_at words 15;
-      regions = fields_at words 23;
-      places = fields_at words 17;
-      place_order = fields_at words 18;
-      isolated = fields_at words 19;
-      region_bits = bits_at words 20;
-      members = fields_at words 25;
-    }
 
 -- contents with these fields
 abbrev pub contents_with : Code → List Bool → List ℕ → List ℕ → List ℕ → List ℕ → List ℕ → List ℕ → List ℕ → List Bool → List ℕ → Contents

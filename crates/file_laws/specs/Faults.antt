@@ -10,9 +10,12 @@ use Rattle.parens.specs.Matching.{balance_fault}
 use Rattle.code_laws.specs.Code.{Code, positions, start_of}
 use Rattle.code_laws.specs.Numbers.{ring_of, is_outer, first_of_edge, tree_edges}
 use Rattle.code_laws.specs.SeqFault.{first_some}
-use Rattle.id_names.specs.Names.{name_fault}
-use Rattle.file_laws.specs.Layout.{HeaderCounts, counts_in, node_count, Section, sections, section_bits, section_words, file_words, header_words, words_of, part, fields_at}
+use Rattle.id_names.specs.Faults.{name_fault}
+use Rattle.id_names.specs.declared.fault.NameFault.{NameFault}
+use Rattle.id_names.specs.declared.fault.NameFault.TheVariants.{HighCounts, Ones, Rising, MarkCounts, MarkOnes, Order}
+use Rattle.file_laws.specs.Layout.{HeaderCounts, counts_in, node_count, face_count, Section, sections, section_bits, section_words, file_words, header_words, words_of, part, fields_at}
 use Rattle.file_laws.specs.Contents.{Contents, component_count}
+use Rattle.file_laws.specs.Held.{names_at}
 use Rattle.file_laws.specs.MapOfFile.{signed_at}
 use Rattle.file_laws.specs.declared.fault.FileFault.{FileFault}
 use Rattle.file_laws.specs.declared.fault.FileFault.TheVariants as fault
@@ -24,15 +27,19 @@ unless fine e = if fine then None else Some e
 abbrev pub magic : ℕ
 magic = 0x4f504f54424d4550
 
+-- how many words the counts ask for: those of the header, where it isn't there
+abbrev pub wanted_words : List ℕ → ℕ
+wanted_words words = if nat_le header_words (length words) then file_words (counts_in words) else header_words
+
 -- the length, the first words, and the number of words that the counts ask for
 unfoldable pub front_fault : List ℕ → Option FileFault
 front_fault bytes =
     let words = words_of bytes in
     first_some (
     unless (length bytes % 8 == 0) (fault.NotWords (length bytes))
-    ∷ unless (nat_le header_words (length words) && (slice_index words 0 == magic)) (fault.NotPemb (length words))
-    ∷ unless (slice_index words 1 == 0) (fault.UnknownForm (slice_index words 1))
-    ∷ unless (length words == file_words (counts_in words)) (fault.Length (file_words (counts_in words)) (length words))
+    ∷ unless (nat_le 11 (length words) && (slice_index words 0 == magic)) (fault.NotPemb (length words))
+    ∷ unless ((slice_index words 1 == 1) || (slice_index words 1 == 2)) (fault.UnknownForm (slice_index words 1))
+    ∷ unless (length words == wanted_words words) (fault.Length (wanted_words words) (length words))
     ∷ [])
 
 -- the first byte of the digest that differs
@@ -53,6 +60,10 @@ count_fault c =
     ∷ unless (nat_le c.components c.edges && ((c.edges == 0) || nat_lt 0 c.components)) (fault.Count 8 c.components)
     ∷ unless (nat_le (node_count c) most) (fault.Count 9 c.isolated)
     ∷ unless (nat_le c.regions most) (fault.Count 10 c.regions)
+    ∷ unless (nat_le c.node_back (node_count c)) (fault.Count 11 c.node_back)
+    ∷ unless (nat_le c.edge_back c.edges) (fault.Count 12 c.edge_back)
+    ∷ unless (nat_le c.face_back (face_count c)) (fault.Count 13 c.face_back)
+    ∷ unless (nat_le c.region_back c.regions) (fault.Count 14 c.region_back)
     ∷ [])
 
 -- a wrong entry of a section
@@ -69,15 +80,25 @@ directories_fault words c =
     ∷ directory_fault 8 (nodes_of c.dual) (part words 8)
     ∷ [])
 
-abbrev pub names_fault : List ℕ → ℕ → Option ℕ
-names_fault words number = name_fault (fields_at words number) (fields_at words (number + 1))
+-- the first fault of the names in the sections behind this number
+unfoldable pub names_fault : List ℕ → ℕ → Option NameFault
+names_fault words number = name_fault (names_at words number) (fields_at words (number + 2)) (fields_at words (number + 6))
+
+-- a fault of names in the sections behind this number: in which section, and what it names there
+abbrev pub told_in : (ℕ → ℕ → FileFault) → ℕ → NameFault → FileFault
+told_in told number (HighCounts at) = told (number + 2) at
+told_in told number (Ones found) = told (number + 1) found
+told_in told number (Rising at) = told (number + 3) at
+told_in told number (MarkCounts at) = told (number + 6) at
+told_in told number (MarkOnes found) = told (number + 5) found
+told_in told number (Order at) = told (number + 4) at
 
 unfoldable pub all_names_fault : List ℕ → Option FileFault
 all_names_fault words =
     first_some (
-    option_map (fault.Name 11) (names_fault words 11)
-    ∷ option_map (fault.Name 13) (names_fault words 13)
-    ∷ option_map (fault.Name 15) (names_fault words 15)
+    option_map (told_in fault.Name 30) (names_fault words 30)
+    ∷ option_map (told_in fault.Name 40) (names_fault words 40)
+    ∷ option_map (told_in fault.Name 50) (names_fault words 50)
     ∷ [])
 
 -- a place is face 0 or the number of a face, and 1 more
@@ -148,7 +169,7 @@ regions_fault words c =
     option_map (fault.RegionPart 20) (balance_fault c.region_bits 0 (length c.region_bits))
     ∷ option_map (λ w. fault.RegionPart 21 w.at) (first_wrong (counts_of c.region_bits) (fields_at words 21))
     ∷ option_map (λ w. fault.RegionPart 22 w.at) (first_wrong (nodes_of c.region_bits) (part words 22))
-    ∷ option_map (fault.RegionPart 23) (names_fault words 23)
+    ∷ option_map (told_in fault.RegionPart 60) (names_fault words 60)
     ∷ option_map (fault.RegionPart 25) (member_fault c)
     ∷ [])
 

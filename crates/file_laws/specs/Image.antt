@@ -1,22 +1,37 @@
 -- The one image that is written of contents: the bytes as a function of what the sections hold.
-use Rattle.std.specs.Prelude.{ℕ, ◌+◌, ◌*◌, ◌/◌, ◌%◌, ◌^◌, Bool, if◌then◌else◌, List, [], ◌∷◌, ◌++◌, map, flat_map, length, unwrap_or}
+use Rattle.std.specs.Prelude.{ℕ, ◌+◌, ◌*◌, ◌/◌, ◌%◌, ◌^◌, Bool, if◌then◌else◌, List, [], ◌∷◌, ◌++◌, map, flat_map, length}
 use Rattle.byteorder.specs.Endian.{little_bytes}
 use Rattle.sha2.specs.Sha256.{sha256}
 use Rattle.bit_words.specs.Lists.{tabulate}
 use Rattle.rank_select.specs.Counts.{counts_of}
 use Rattle.min_max_tree.specs.Tree.{nodes_of}
-use Rattle.plane_model.specs.Sets.{rising}
 use Rattle.code_laws.specs.Code.{Code}
 use Rattle.code_laws.specs.Numbers.{tree_edges}
-use Rattle.id_names.specs.Names.{number_of}
-use Rattle.file_laws.specs.Layout.{HeaderCounts, Section}
+use Rattle.id_names.specs.RisingNames.{RisingNames}
+use Rattle.id_names.specs.Making.{made, place_width}
+use Rattle.file_laws.specs.Layout.{HeaderCounts, Section, low_width}
 use Rattle.file_laws.specs.Contents.{Contents, component_count}
 use Rattle.file_laws.specs.Faults.{magic}
 
--- the counts of these contents
-abbrev pub counts_of_contents : Contents → HeaderCounts
-counts_of_contents c =
-    record { edges = length c.edges; tree_edges = tree_edges c.code; components = component_count c; isolated = length c.isolated; regions = length c.regions }
+-- the names that are made of these ids in a form
+abbrev pub names_for : ℕ → List ℕ → RisingNames
+names_for form ids = made (low_width form (length ids)) ids
+
+-- a form with the counts of these contents in it
+abbrev pub counts_of_contents : ℕ → Contents → HeaderCounts
+counts_of_contents form c =
+    record {
+      form = form;
+      edges = length c.edges;
+      tree_edges = tree_edges c.code;
+      components = component_count c;
+      isolated = length c.isolated;
+      regions = length c.regions;
+      node_back = length (names_for form c.nodes).back;
+      edge_back = length (names_for form c.edges).back;
+      face_back = length (names_for form c.faces).back;
+      region_back = length (names_for form c.regions).back;
+    }
 
 -- numbers of one width as the digits of one number, the first lowest
 unfoldable pub joined : ℕ → List ℕ → ℕ
@@ -59,37 +74,44 @@ with_counts number bits = with_bits number bits ∷ with_fields (number + 1) (co
 abbrev pub with_tree : ℕ → List Bool → List Filled
 with_tree number bits = with_bits number bits ∷ with_fields (number + 1) (counts_of bits) ∷ with_words (number + 2) (nodes_of bits) ∷ []
 
--- the numbers of these ids, rising by id
-abbrev pub order_of : List ℕ → List ℕ
-order_of ids = map (λ id. unwrap_or (number_of ids id) 0) (rising ids)
+-- fields of a width
+abbrev pub with_width : ℕ → ℕ → List ℕ → Filled
+with_width number width items = record { number = number; width = width; items = items }
 
--- ids by number, and their numbers rising by id
-abbrev pub with_names : ℕ → List ℕ → List Filled
-with_names number ids = with_fields number ids ∷ with_fields (number + 1) (order_of ids) ∷ []
+-- the seven parts of names, behind this number
+abbrev pub with_parts : ℕ → ℕ → RisingNames → List Filled
+with_parts number c p =
+    with_counts (number + 1) p.high ++ with_width (number + 3) p.low p.lows ∷ with_width (number + 4) (place_width c) p.places ∷ []
+    ++ with_counts (number + 5) p.marks ++ with_width (number + 7) (place_width c) p.back ∷ []
+
+-- the names that are made of these ids
+abbrev pub with_names : ℕ → ℕ → List ℕ → List Filled
+with_names form number ids = with_parts number (length ids) (names_for form ids)
 
 -- the sections of a code
 abbrev pub code_sections : Code → List Filled
 code_sections c = with_counts 1 c.a ++ with_tree 3 c.tree ++ with_tree 6 c.dual ++ with_fields 9 c.starts ∷ []
 
 -- all sections with what they hold, in their order
-unfoldable pub filled : Contents → List Filled
-filled c =
+unfoldable pub filled : ℕ → Contents → List Filled
+filled form c =
     code_sections c.code ++ with_bits 10 c.forward ∷ []
-    ++ with_names 11 c.nodes ++ with_names 13 c.edges ++ with_names 15 c.faces
+    ++ with_names form 30 c.nodes ++ with_names form 40 c.edges ++ with_names form 50 c.faces
     ++ with_fields 17 c.places ∷ with_fields 18 c.place_order ∷ with_fields 19 c.isolated ∷ []
-    ++ with_tree 20 c.region_bits ++ with_names 23 c.regions ++ with_fields 25 c.members ∷ []
+    ++ with_tree 20 c.region_bits ++ with_names form 60 c.regions ++ with_fields 25 c.members ∷ []
 
 -- the words behind the digest: the counts, and the sections
-abbrev pub counts_words : Contents → List ℕ
-counts_words c = length c.edges ∷ tree_edges c.code ∷ component_count c ∷ length c.isolated ∷ length c.regions ∷ []
+abbrev pub counts_words : HeaderCounts → List ℕ
+counts_words n =
+    n.edges ∷ n.tree_edges ∷ n.components ∷ n.isolated ∷ n.regions ∷ n.node_back ∷ n.edge_back ∷ n.face_back ∷ n.region_back ∷ []
 
-abbrev pub content_words : Contents → List ℕ
-content_words c = counts_words c ++ flat_map words_of_filled (filled c)
+abbrev pub content_words : ℕ → Contents → List ℕ
+content_words form c = counts_words (counts_of_contents form c) ++ flat_map words_of_filled (filled form c)
 
 -- the bytes of words, the lowest byte of each first
 unfoldable pub bytes_of : List ℕ → List ℕ
 bytes_of words = flat_map (little_bytes 8) words
 
 -- the first word, the form, the digest of what follows it, the counts and the sections
-unfoldable pub image_of : Contents → List ℕ
-image_of c = let content = bytes_of (content_words c) in bytes_of (magic ∷ 0 ∷ []) ++ sha256 content ++ content
+unfoldable pub image_of : ℕ → Contents → List ℕ
+image_of form c = let content = bytes_of (content_words form c) in bytes_of (magic ∷ form ∷ []) ++ sha256 content ++ content

@@ -1,6 +1,7 @@
 -- Lawful files, and the tables that they stand for.
-use Rattle.std.specs.Prelude.{ℕ, ◌+◌, ◌*◌, ◌==◌, nat_le, Bool, List, [], ◌∷◌, length, Option, is_none, option_map}
+use Rattle.std.specs.Prelude.{ℕ, ◌+◌, ◌*◌, ◌^◌, ◌==◌, nat_le, nat_lt, Bool, List, [], ◌∷◌, length, Option, is_none, option_map}
 use Rattle.std.specs.List.{list_all}
+use Rattle.topo_base.specs.declared.id.TheConstants.{LARGEST_ID}
 use Rattle.plane_model.specs.Rows.{Rows}
 use Rattle.plane_model.specs.PlaneMap.{Same}
 use Rattle.plane_model.specs.Sets.{or_else}
@@ -8,8 +9,9 @@ use Rattle.parens.specs.Matching.{balance_fault}
 use Rattle.code_laws.specs.Numbers.{tree_edges}
 use Rattle.code_laws.specs.SeqFault.{seq_fault, first_some, is_sound}
 use Rattle.id_names.specs.Names.{is_names}
-use Rattle.file_laws.specs.Layout.{HeaderCounts, counts_in, words_of}
-use Rattle.file_laws.specs.Contents.{Contents, component_count, contents_of}
+use Rattle.file_laws.specs.Layout.{HeaderCounts, counts_in, words_of, id_bits}
+use Rattle.file_laws.specs.Contents.{Contents, component_count}
+use Rattle.file_laws.specs.Held.{contents_of}
 use Rattle.file_laws.specs.MapOfFile.{rows_of_contents}
 use Rattle.file_laws.specs.Faults.{front_fault, digest_fault, count_fault, directories_fault, all_names_fault, places_fault, start_fault, member_fault, regions_fault, padding_fault, most}
 use Rattle.file_laws.specs.declared.fault.FileFault.{FileFault}
@@ -43,19 +45,27 @@ abbrev pub whole_tests : Contents → List Bool
 whole_tests c =
     has_sizes c
     ∷ is_sound c.code
-    ∷ is_names c.nodes
-    ∷ is_names c.edges
-    ∷ is_names c.faces
-    ∷ is_names c.regions
+    ∷ is_names (LARGEST_ID + 1) c.nodes
+    ∷ is_names (LARGEST_ID + 1) c.edges
+    ∷ is_names (LARGEST_ID + 1) c.faces
+    ∷ is_names (LARGEST_ID + 1) c.regions
     ∷ is_none (places_fault c)
     ∷ is_none (start_fault c)
     ∷ is_none (balance_fault c.region_bits 0 (length c.region_bits))
     ∷ is_none (member_fault c)
     ∷ []
 
--- Contents that a lawful file can have, whatever its form. Writers ask it of what they write.
+-- Contents that a lawful file of form 2 can have. Writers ask it of what they write.
 unfoldable pub is_whole : Contents → Bool
 is_whole c = all_of (whole_tests c)
+
+-- a file of this form has room for each of these ids
+abbrev pub has_room : ℕ → List ℕ → Bool
+has_room form ids = list_all (λ id. nat_lt id (2 ^ id_bits form)) ids
+
+-- a file of this form has room for the ids of these contents
+unfoldable pub has_room_for : ℕ → Contents → Bool
+has_room_for form c = all_of (has_room form c.nodes ∷ has_room form c.edges ∷ has_room form c.faces ∷ has_room form c.regions ∷ [])
 
 -- the first fault of words whose number is right, in what the sections hold
 unfoldable pub content_fault : List ℕ → Option FileFault

@@ -1,5 +1,6 @@
 pub mod Layout
 pub mod Contents
+pub mod Held
 pub mod MapOfFile
 pub mod Faults
 pub mod Lawful

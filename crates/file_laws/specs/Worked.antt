@@ -1,10 +1,12 @@
 -- Small files, and what is wrong with files like them.
-use Rattle.std.specs.Prelude.{ℕ, ◌+◌, ◌*◌, ◌^◌, ℤ, pos, neg_ℤ, List, [], ◌∷◌, ◌++◌, Some, None, take, drop}
+use Rattle.std.specs.Prelude.{ℕ, ◌+◌, ◌*◌, ◌^◌, ℤ, pos, neg_ℤ, List, [], ◌∷◌, ◌++◌, Some, None, take, drop, replicate}
 use Rattle.bit_words.specs.Words.{words_in}
 use Rattle.sha2.specs.Sha256.{sha256}
 use Rattle.plane_model.specs.Rows.{Rows}
 use Rattle.plane_model.specs.declared.rows.NodeRow.{NodeRow}
-use Rattle.file_laws.specs.Contents.{Contents, contents_of}
+use Rattle.file_laws.specs.Layout.{HeaderCounts}
+use Rattle.file_laws.specs.Contents.{Contents}
+use Rattle.file_laws.specs.Held.{contents_of}
 use Rattle.file_laws.specs.Faults.{magic}
 use Rattle.file_laws.specs.Image.{bytes_of}
 
@@ -12,16 +14,42 @@ use Rattle.file_laws.specs.Image.{bytes_of}
 abbrev pub two : ℕ → ℕ → ℕ
 two x y = x + 2 ^ 32 * y
 
--- the file of a triangle, with 0 in place of its digest
+-- the file of a triangle in form 1, with 0 in place of its digest
 abbrev pub tri : List ℕ
 tri =
-    magic ∷ 0 ∷ 0 ∷ 0 ∷ 0 ∷ 0 ∷ 3 ∷ 2 ∷ 1 ∷ 0 ∷ 0
-    ∷ 27 ∷ two 0 4 ∷ 3 ∷ two 0 2 ∷ 0 ∷ 1 ∷ two 0 1 ∷ 0 ∷ two 0 6 ∷ 0
-    ∷ two 2 1 ∷ two 3 0 ∷ two 1 0 ∷ two 2 0 ∷ two 1 3 ∷ two 2 0 ∷ two 0 2 ∷ two 1 0
-    ∷ 1 ∷ 0 ∷ 0 ∷ 0 ∷ 0 ∷ 0 ∷ []
+    magic ∷ 1 ∷ 0 ∷ 0 ∷ 0 ∷ 0 ∷ 3 ∷ 2 ∷ 1 ∷ 0 ∷ 0 ∷ 0 ∷ 0 ∷ 0 ∷ 0 ∷ 27 ∷ 17179869184 ∷ 3 ∷ 8589934592 ∷ 0 ∷ 1
+    ∷ 4294967296 ∷ 0 ∷ 25769803776 ∷ 0 ∷ 7 ∷ 12884901888 ∷ 864691129528877057 ∷ 0 ∷ 33 ∷ 0 ∷ 0 ∷ 7 ∷ 12884901888
+    ∷ 864691129528877057 ∷ 0 ∷ 24 ∷ 0 ∷ 0 ∷ 1 ∷ 4294967296 ∷ 1 ∷ 0 ∷ 0 ∷ 0 ∷ 0 ∷ 0 ∷ 0 ∷ 0 ∷ 0 ∷ 0 ∷ 0 ∷ []
+
+-- the same in form 2
+abbrev pub wide_tri : List ℕ
+wide_tri =
+    magic ∷ 2 ∷ 0 ∷ 0 ∷ 0 ∷ 0 ∷ 3 ∷ 2 ∷ 1 ∷ 0 ∷ 0 ∷ 0 ∷ 0 ∷ 0 ∷ 0 ∷ 27 ∷ 17179869184 ∷ 3 ∷ 8589934592 ∷ 0 ∷ 1
+    ∷ 4294967296 ∷ 0 ∷ 25769803776 ∷ 0 ∷ 7 ∷ 12884901888 ∷ 4611686018427387905 ∷ 864691128455135232 ∷ 0 ∷ 33 ∷ 0 ∷ 0
+    ∷ 7 ∷ 12884901888 ∷ 4611686018427387905 ∷ 864691128455135232 ∷ 0 ∷ 24 ∷ 0 ∷ 0 ∷ 1 ∷ 4294967296 ∷ 1 ∷ 0 ∷ 0 ∷ 0 ∷ 0
+    ∷ 0 ∷ 0 ∷ 0 ∷ 0 ∷ 0 ∷ 0 ∷ []
 
 abbrev pub with_word : ℕ → ℕ → List ℕ
 with_word i word = take i tri ++ word ∷ drop (i + 1) tri
+
+abbrev pub wide_with : ℕ → ℕ → List ℕ
+wide_with i word = take i wide_tri ++ word ∷ drop (i + 1) wide_tri
+
+-- a form, and counts without back pointers: edges, tree edges, components, isolated nodes and regions
+abbrev pub counts_with : ℕ → ℕ → ℕ → ℕ → ℕ → ℕ → HeaderCounts
+counts_with form edges tree_edges components isolated regions =
+    record {
+      form = form;
+      edges = edges;
+      tree_edges = tree_edges;
+      components = components;
+      isolated = isolated;
+      regions = regions;
+      node_back = 0;
+      edge_back = 0;
+      face_back = 0;
+      region_back = 0;
+    }
 
 abbrev pub minus : ℕ → ℤ
 minus n = neg_ℤ (pos n)
@@ -52,15 +80,16 @@ sealed words = bytes_of (take 2 words ++ digest_words words ++ drop 6 words)
 
 -- three tables without rows
 abbrev pub empty : List ℕ
-empty = magic ∷ 0 ∷ 0 ∷ 0 ∷ 0 ∷ 0 ∷ 0 ∷ 0 ∷ 0 ∷ 0 ∷ 0 ∷ 0 ∷ 0 ∷ 0 ∷ 0 ∷ 0 ∷ 0 ∷ []
+empty = magic ∷ 1 ∷ replicate 31 0
 
 -- the triangle, and a closed edge and a node inside it, with two regions
 abbrev pub isle : List ℕ
 isle =
-    5715155150441366864 ∷ 0 ∷ 0 ∷ 0 ∷ 0 ∷ 0 ∷ 4 ∷ 2 ∷ 2 ∷ 1 ∷ 2
-    ∷ 27 ∷ 17179869184 ∷ 3 ∷ 8589934592 ∷ 0 ∷ 5 ∷ 8589934592 ∷ 0 ∷ 25769803776 ∷ 8 ∷ 0
-    ∷ 17179869186 ∷ 12884901889 ∷ 5 ∷ 2 ∷ 4294967299 ∷ 4 ∷ 12884901889 ∷ 17179869186 ∷ 8589934592 ∷ 12884901889 ∷ 8589934593
-    ∷ 4294967296 ∷ 4294967296 ∷ 4294967296 ∷ 2 ∷ 3 ∷ 8589934592 ∷ 0 ∷ 8589934593 ∷ 4294967296 ∷ 8589934592 ∷ 1 ∷ []
+    magic ∷ 1 ∷ 0 ∷ 0 ∷ 0 ∷ 0 ∷ 4 ∷ 2 ∷ 2 ∷ 1 ∷ 2 ∷ 2 ∷ 0 ∷ 0 ∷ 0 ∷ 27 ∷ 17179869184 ∷ 3 ∷ 8589934592 ∷ 0 ∷ 5
+    ∷ 8589934592 ∷ 0 ∷ 25769803776 ∷ 8 ∷ 0 ∷ 31 ∷ 21474836480 ∷ 216172782650654721 ∷ 1407374887747584 ∷ 0 ∷ 17433 ∷ 5
+    ∷ 8589934592 ∷ 2 ∷ 15 ∷ 17179869184 ∷ 216172782650654721 ∷ 4194304 ∷ 1616 ∷ 0 ∷ 0 ∷ 3 ∷ 8589934592 ∷ 1073741825
+    ∷ 4 ∷ 0 ∷ 0 ∷ 4294967296 ∷ 4294967296 ∷ 2 ∷ 3 ∷ 8589934592 ∷ 0 ∷ 3 ∷ 8589934592 ∷ 1073741825 ∷ 4 ∷ 0 ∷ 0
+    ∷ 8589934592 ∷ 1 ∷ []
 
 abbrev pub isle_with : ℕ → ℕ → List ℕ
 isle_with i word = take i isle ++ word ∷ drop (i + 1) isle
@@ -82,7 +111,7 @@ isle_rows =
 
 -- the same without regions
 abbrev pub plain : List ℕ
-plain = take 10 isle ++ 0 ∷ take 26 (drop 11 isle) ++ 0 ∷ 0 ∷ 0 ∷ []
+plain = take 10 isle ++ 0 ∷ take 3 (drop 11 isle) ++ 0 ∷ take 36 (drop 15 isle) ++ replicate 6 0
 
 abbrev pub plain_with : ℕ → ℕ → List ℕ
 plain_with i word = take i plain ++ word ∷ drop (i + 1) plain

@@ -1,6 +1,6 @@
 //! What the definitions of files and of their maps say, each law the contract of a function that does nothing.
 
-ghost use Rattle.std.specs.Prelude.{◌≡◌, ◌*◌, ◌+◌, ◌≤◌, ◌<◌, ◌==◌, true, false, ℕ, ℤ, List, Some, map, length, filter, option_map, slice_index, IsTrue};
+ghost use Rattle.std.specs.Prelude.{◌≡◌, ◌*◌, ◌+◌, ◌^◌, ◌≤◌, ◌<◌, ◌==◌, ◌⊎◌, true, false, ℕ, ℤ, List, Some, map, length, filter, option_map, slice_index, IsTrue};
 ghost use Rattle.plane_model.specs.PlaneMap.{map_of, ring, round};
 ghost use Rattle.plane_model.specs.Sets.{has_edge};
 ghost use Rattle.plane_model.specs.Rotation.{is_rotation_system};
@@ -11,27 +11,42 @@ ghost use Rattle.plane_model.specs.Consistent.{is_consistent, size};
 ghost use Rattle.plane_model.specs.InRange.{is_in_range};
 ghost use Rattle.code_laws.specs.Code.{component_of, start_of};
 ghost use Rattle.code_laws.specs.Orbits.{orbit};
-ghost use Rattle.file_laws.specs.Layout.{HeaderCounts, counts_in, words_of, header_words, file_words, section, section_from, section_words, sections, total_words, is_code_section};
-ghost use Rattle.file_laws.specs.Contents.{Contents, contents_of};
+ghost use Rattle.file_laws.specs.Layout.{HeaderCounts, counts_in, words_of, header_words, file_words, section, section_from, section_numbers, section_words, sections, total_words, is_code_section};
+ghost use Rattle.file_laws.specs.Contents.{Contents};
+ghost use Rattle.file_laws.specs.Held.{contents_of};
 ghost use Rattle.region_tree.specs.Nesting.{region_at};
 ghost use Rattle.region_tree.specs.Numbering.{AreNumbered};
 ghost use Rattle.file_laws.specs.MapOfFile.{signed_at, face_at_place, rows_of_contents};
-ghost use Rattle.file_laws.specs.Lawful.{is_lawful, is_whole, map_of_file, file_size};
+ghost use Rattle.file_laws.specs.Lawful.{is_lawful, is_whole, has_room_for, map_of_file, file_size};
 ghost use Rattle.file_laws.specs.Agreement.{Agrees, starts_of};
 ghost use Rattle.file_laws.specs.Counted.{HasCounts};
 
-/// The sections of a file follow each other without gaps, and fill the file.
+/// The sections of a file follow each other without gaps, in the order of their numbers' list, and fill the file.
 pub fn sections_follow()
+    ensures numbers { (c : HeaderCounts) → map (λ s. s.number) (sections c) ≡ section_numbers }
     ensures first { (c : HeaderCounts) → section_from c 1 ≡ header_words }
-    ensures next { (c : HeaderCounts) (number : ℕ) → 1 ≤ number → number < 25 → section_from c (number + 1) ≡ section_from c number + section_words (section c number) }
+    ensures next { (c : HeaderCounts) (i : ℕ) → i < 44 → section_from c (slice_index section_numbers (i + 1)) ≡ section_from c (slice_index section_numbers i) + section_words (section c (slice_index section_numbers i)) }
     ensures last { (c : HeaderCounts) → section_from c 25 + section_words (section c 25) ≡ file_words c }
     ensures within { (c : HeaderCounts) (number : ℕ) → section_from c number + section_words (section c number) ≤ file_words c }
 {}
 
-/// A lawful file has exactly the length that its counts give, and its code is small.
+/// A lawful file is of form 1 or of form 2.
+pub fn two_forms()
+    ensures { (bytes : List ℕ) → IsTrue (is_lawful bytes) → ((counts_in (words_of bytes)).form ≡ 1) ⊎ ((counts_in (words_of bytes)).form ≡ 2) }
+{}
+
+/// A lawful file has exactly the length that its form and its counts give, its code is small, and none is large.
 pub fn lawful_sizes()
     ensures length { (bytes : List ℕ) → IsTrue (is_lawful bytes) → length bytes ≡ 8 * file_words (counts_in (words_of bytes)) }
     ensures small { (bytes : List ℕ) → IsTrue (is_lawful bytes) → 64 * total_words (filter is_code_section (sections (counts_in (words_of bytes)))) ≤ 6 * (counts_in (words_of bytes)).edges + 16384 }
+    ensures few { (bytes : List ℕ) → IsTrue (is_lawful bytes) → length bytes < 2 ^ 30 }
+{}
+
+/// Whole contents have room in form 2, and what a lawful file holds has room in the file's own form.
+pub fn rooms()
+    ensures whole { (c : Contents) → IsTrue (is_whole c) → IsTrue (has_room_for 2 c) }
+    ensures old { (bytes : List ℕ) → IsTrue (is_lawful bytes) → (counts_in (words_of bytes)).form ≡ 1 → IsTrue (has_room_for 1 (contents_of (words_of bytes))) }
+    ensures own { (bytes : List ℕ) → IsTrue (is_lawful bytes) → IsTrue (has_room_for (counts_in (words_of bytes)).form (contents_of (words_of bytes))) }
 {}
 
 /// The map of whole contents agrees with their code, position by position.

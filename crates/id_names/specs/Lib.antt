@@ -1,3 +1,12 @@
 pub mod Names
-pub mod NamesView
+pub mod Rising
+pub mod Inverse
+pub mod RisingNames
+pub mod Faults
+pub mod Parts
+pub mod PartViews
+pub mod Views
+pub mod Cycles
+pub mod Making
 pub mod Numbered
+pub mod Worked

@@ -1,35 +1,18 @@
-ghost use Rattle.std.specs.Prelude.{◌≡◌, ◌≤◌, ◌+◌, ◌*◌, length, MatchResult, Some, None};
-ghost use Rattle.bit_words.specs.PackedView.{fields_of};
-ghost use Rattle.id_names.specs.Names.{name_fault};
+//! What can be wrong with the parts of names, in the order in which it is looked for.
 
-use bit_words::{PackedView, Steps};
-use std::sync::ledger::Ledger;
-use topo_base::LARGEST_ID;
-
-/// Whether the order has each number once, rising by its id, and each id is in range. Err has the first place of the
-/// order where that is not so: a number that there isn't, an id out of range, or one not above the id before it.
-pub fn check<C: Ledger>(
-    ids: PackedView<'_>,
-    order: PackedView<'_>,
-    steps: &mut Steps<C>,
-) -> Result<(), u64>
-    requires few { length (fields_of ids) ≤ 16777216 }
-    requires count { length (fields_of order) ≡ length (fields_of ids) }
-    ensures checked { MatchResult result (λ _. name_fault (fields_of ids.entry) (fields_of order.entry) ≡ None) (λ j. name_fault (fields_of ids.entry) (fields_of order.entry) ≡ Some j) }
-    ensures grows { steps.old ≤ steps.new }
-    ensures cost { steps.new ≤ steps.old + 4 * length (fields_of ids.entry) + 4 }
-{
-    let mut last = 0;
-    for place in 0..order.count() {
-        let number = order.field(place, steps);
-        if number >= ids.count() as u64 {
-            return Err(place as u64);
-        }
-        let id = ids.field(number as usize, steps);
-        if id <= last || id > u64::from(LARGEST_ID) {
-            return Err(place as u64);
-        }
-        last = id;
-    }
-    Ok(())
+/// What is first wrong with the parts of names.
+#[derive(Clone, Copy, Debug, PartialEq, Eq)]
+pub enum NameFault {
+    /// An entry of the directory of the high parts is not the count that it should be.
+    HighCounts { at: u64 },
+    /// The high parts have another number of ones than there are names.
+    Ones { found: u64 },
+    /// The id at a place is out of range, or not above that of the place before.
+    Rising { at: u64 },
+    /// An entry of the directory of the marks is not the count that it should be.
+    MarkCounts { at: u64 },
+    /// There are not as many marks as back pointers.
+    MarkOnes { found: u64 },
+    /// The place of a number is none, or from it the walk back does not come to the number.
+    Order { at: u64 },
 }

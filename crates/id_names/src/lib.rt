@@ -1,17 +1,31 @@
 //! Names: which id each number from 0 on has, and which number has an id.
 //!
-//! The ids stand by number in fields of 32 bits, and beside them the numbers, rising by id: an id is read at
-//! its number, and a number is found by halving.
+//! The ids stand as a rising list, by their high parts as ones and zeros and their low parts packed, and beside
+//! it the place of each number in the list. The number of a place is found by following the places, with marks
+//! on long cycles and a pointer back from each, so that few places are read.
 #![tactic(auto)]
 
+mod cycles;
 mod fault;
+mod inverse;
 pub mod laws;
+pub mod made;
+mod name_parts;
 mod name_words;
 mod names_view;
+mod packing;
+mod place_words;
+mod rising_ids;
+mod rising_words;
+mod sorted;
+mod verify;
+pub mod worked;
 
-pub use fault::check;
+pub use fault::NameFault;
+pub use name_parts::NameParts;
 pub use name_words::{NameWords, make};
 pub use names_view::NamesView;
+pub use verify::check;
 
 #[cfg(test)]
 mod tests;

@@ -1,8 +1,17 @@
-ghost use Rattle.std.specs.Prelude.{◌≡◌, ◌≤◌, length, None};
-ghost use Rattle.bit_words.specs.PackedView.{fields_of};
-ghost use Rattle.id_names.specs.Names.{name_fault};
+//! Names that are asked both ways: the id of a number, and the number of an id.
 
-use bit_words::{PackedView, Steps};
+ghost use Rattle.std.specs.Prelude.{◌≡◌, length, None};
+ghost use Rattle.bit_words.specs.PackedView.{fields_of};
+ghost use Rattle.rank_select.specs.RankView.{counted};
+ghost use Rattle.rank_select.specs.Counts.{counts_of};
+ghost use Rattle.id_names.specs.Faults.{name_fault};
+ghost use Rattle.id_names.specs.PartViews.{names_over};
+
+use crate::inverse::Inverse;
+use crate::name_parts::NameParts;
+use crate::rising_ids::RisingIds;
+use bit_words::Steps;
+use rank_select::RankView;
 use std::cmp::Ordering;
 use std::sync::ledger::Ledger;
 use topo_base::IdNumber;
@@ -10,28 +19,37 @@ use topo_base::IdNumber;
 /// An id for each number from 0 on, no two the same.
 #[derive(Clone, Copy)]
 pub struct NamesView<'a> {
-    ids: PackedView<'a>,
-    order: PackedView<'a>,
-    ghost few: { length (fields_of ids) ≤ 16777216 },
-    ghost count: { length (fields_of order) ≡ length (fields_of ids) },
-    ghost right: { name_fault (fields_of ids) (fields_of order) ≡ None },
+    ids: RisingIds<'a>,
+    inverse: Inverse<'a>,
+    ghost count: { length (fields_of ids.lows) ≡ length (fields_of inverse.places) },
+    ghost right: { name_fault (names_over ids inverse) (counts_of (counted ids.high)) (counts_of (counted inverse.marks)) ≡ None },
 }
 
 impl<'a> NamesView<'a> {
-    ghost use Rattle.std.specs.Prelude.{◌≡◌, ◌≢◌, ◌<◌, ◌≤◌, ◌+◌, ◌*◌, ℕ, length, slice_index, None, MatchOption};
-    ghost use Rattle.bit_words.specs.PackedView.{fields_of};
+    ghost use Rattle.std.specs.Prelude.{◌≡◌, ◌≢◌, ◌<◌, ◌≤◌, ◌+◌, ◌*◌, ◌^◌, ℕ, length, slice_index, None, Some, MatchOption};
     ghost use Rattle.bit_words.specs.Digits.{digits};
-    ghost use Rattle.id_names.specs.Names.{AreDistinctIds, name_fault, number_of};
-    ghost use Rattle.id_names.specs.NamesView.{ids_of, IsWithin};
+    ghost use Rattle.id_names.specs.Names.{AreDistinctIds, number_of};
+    ghost use Rattle.id_names.specs.RisingNames.{id_bound, id_at, number_at};
+    ghost use Rattle.id_names.specs.Parts.{fault_of, names_of, HasSizes};
+    ghost use Rattle.id_names.specs.Views.{ids_of, names_in};
 
-    /// The ids by number, with the numbers rising by id, which `make` makes and `check` finds right.
-    pub fn new(ids: PackedView<'a>, order: PackedView<'a>) -> NamesView<'a>
-        requires few { length (fields_of ids) ≤ 16777216 }
-        requires count { length (fields_of order) ≡ length (fields_of ids) }
-        requires right { name_fault (fields_of ids) (fields_of order) ≡ None }
-        ensures { ids_of result ≡ fields_of ids.entry }
+    /// The names of these parts, which `make` makes and `check` finds right.
+    pub fn new(parts: NameParts<'a>) -> NamesView<'a>
+        requires sizes { HasSizes parts }
+        requires right { fault_of parts ≡ None }
+        ensures { names_in result ≡ names_of parts.entry }
     {
-        NamesView { ids, order }
+        NamesView {
+            ids: RisingIds {
+                high: RankView::new(parts.high, parts.high_counts),
+                lows: parts.lows,
+            },
+            inverse: Inverse {
+                places: parts.places,
+                marks: RankView::new(parts.marks, parts.mark_counts),
+                back: parts.back,
+            },
+        }
     }
 
     /// How many numbers have an id.
@@ -39,9 +57,11 @@ impl<'a> NamesView<'a> {
     pub fn count(&self) -> usize
         ensures count { result ≡ length (ids_of self.now) }
         ensures few { result ≤ 16777216 }
-        ensures names { AreDistinctIds (ids_of self.now) }
+        ensures names { AreDistinctIds (id_bound (names_in self.now)) (ids_of self.now) }
+        ensures narrow { id_bound (names_in self.now) ≤ 2 ^ 63 }
+        ensures rising { (i j : ℕ) → i < j → j < length (ids_of self.now) → id_at (names_in self.now) i < id_at (names_in self.now) j }
     {
-        self.ids.count()
+        self.inverse.places.count()
     }
 
     /// The id of a number.
@@ -50,29 +70,31 @@ impl<'a> NamesView<'a> {
         requires { number < length (ids_of self.now) }
         ensures id { result ≡ slice_index (ids_of self.now) number }
         ensures some_steps { steps.old + 1 ≤ steps.new }
-        ensures cost { steps.new ≤ steps.old + 2 }
+        ensures cost { steps.new ≤ steps.old + 3 * digits (length (ids_of self.now) + 2) + 20 }
     {
-        self.ids.field(number, steps) as IdNumber
+        let place = self.inverse.places.field(number, steps) as usize;
+        self.ids.id(place, steps)
     }
 
-    /// The first place that an id can stand at, and the first behind all of these: ids rise by 1 at least from place to
-    /// place, so where few are left out few places are in question.
-    fn places_of<C: Ledger>(&self, id: IdNumber, steps: &mut Steps<C>) -> (usize, usize)
-        ensures within { IsWithin self.now id result.0 result.1 }
+    /// The place of the list at which this id stands, or None where it stands at none.
+    fn place_of<C: Ledger>(&self, id: IdNumber, steps: &mut Steps<C>) -> Option<usize>
+        ensures place { MatchOption result ((k : ℕ) → k < length (ids_of self.now) → id_at (names_in self.now) k ≢ id) (λ place. (place < length (ids_of self.now)) × (id_at (names_in self.now) place ≡ id)) }
         ensures grows { steps.old ≤ steps.new }
-        ensures cost { steps.new ≤ steps.old + 4 }
+        ensures cost { steps.new ≤ steps.old + 8 * digits (length (ids_of self.now) + 2) + 32 }
     {
-        let count = self.order.count();
-        if count == 0 {
-            return (0, 0);
+        let low = self.ids.lows.width();
+        let high = (id >> low) as usize;
+        let wanted = id % (1 << low);
+        let (mut from, mut to) = self.ids.bucket(high, steps);
+        while from < to {
+            let middle = from + (to - from) / 2;
+            match self.ids.lows.field(middle, steps).cmp(&wanted) {
+                Ordering::Less => from = middle + 1,
+                Ordering::Equal => return Some(middle),
+                Ordering::Greater => to = middle,
+            }
         }
-        let number = self.order.field(count - 1, steps) as usize;
-        let last = self.id_of(number, steps);
-        if last < id {
-            return (count, count);
-        }
-        let low = (count - 1).saturating_sub((last - id) as usize);
-        (low, count.min(id as usize))
+        None
     }
 
     /// The number that has this id, or None where no number has it.
@@ -80,18 +102,25 @@ impl<'a> NamesView<'a> {
         ensures number { result ≡ number_of (ids_of self.now) id }
         ensures found { MatchOption result ((k : ℕ) → k < length (ids_of self.now) → slice_index (ids_of self.now) k ≢ id) (λ number. (number < length (ids_of self.now)) × (slice_index (ids_of self.now) number ≡ id)) }
         ensures grows { steps.old ≤ steps.new }
-        ensures cost { steps.new ≤ steps.old + 4 * digits (length (ids_of self.now) + 2) + 6 }
+        ensures cost { steps.new ≤ steps.old + 12 * digits (length (ids_of self.now) + 2) + 60 }
     {
-        let (mut low, mut high) = self.places_of(id, steps);
-        while low < high {
-            let middle = low + (high - low) / 2;
-            let number = self.order.field(middle, steps) as usize;
-            match self.id_of(number, steps).cmp(&id) {
-                Ordering::Less => low = middle + 1,
-                Ordering::Equal => return Some(number),
-                Ordering::Greater => high = middle,
-            }
-        }
-        None
+        let place = self.place_of(id, steps)?;
+        self.inverse.number(place, steps)
+    }
+
+    /// The number at this place of the list of names that rises by id.
+    pub fn number_at<C: Ledger>(&self, place: usize, steps: &mut Steps<C>) -> usize
+        requires { place < length (ids_of self.now) }
+        ensures within { result < length (ids_of self.now) }
+        ensures place { slice_index (names_in self.now).places result ≡ place }
+        ensures number { number_at (names_in self.now) place ≡ Some result }
+        ensures id { slice_index (ids_of self.now) result ≡ id_at (names_in self.now) place }
+        ensures grows { steps.old ≤ steps.new }
+        ensures cost { steps.new ≤ steps.old + 4 * digits (length (ids_of self.now) + 2) + 20 }
+    {
+        let Some(number) = self.inverse.number(place, steps) else {
+            unreachable!()
+        };
+        number
     }
 }

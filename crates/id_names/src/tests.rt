@@ -1,42 +1,49 @@
-ghost use Rattle.std.specs.Prelude.{◌≡◌, ◌<◌, ◌≤◌, length};
-ghost use Rattle.id_names.specs.Names.{AreDistinctIds};
+//! Names of small words, asked in full, and the faults of words with one thing wrong.
 
-use crate::{NamesView, check, make};
-use bit_words::{PackedView, Steps, WordView};
+ghost use Rattle.std.specs.Prelude.{◌≡◌, ◌<◌};
+
+mod image;
+mod make;
+
+use crate::tests::image::{Image, Words, image_of, parts_of};
+use crate::{NameFault, NamesView, check};
+use bit_words::Steps;
 use std::alloc::Global;
 use std::marker::Brand;
 use std::sync::ledger::{Blank, Ledger};
 use std::test::Fail;
-use topo_base::{IdNumber, LARGEST_ID};
+use topo_base::IdNumber;
 
-/// Names as bytes.
-#[derive(Drop)]
-struct Image {
-    count: usize,
-    ids: Vec<u8>,
-    order: Vec<u8>,
-}
-
-/// The bytes of these words, the lowest byte of each first.
-fn bytes_of(alloc: Global, words: &[u64]) -> Result<Vec<u8>, Fail> {
-    let mut bytes = Vec::new(alloc);
-    for word in words {
-        bytes.extend_from_slice(&word.to_le_bytes())?;
+/// Four names in one cycle: 2, 3, 4, 1.
+fn four() -> Words {
+    Words {
+        count: 4,
+        low: 28,
+        marked: 2,
+        high: 15,
+        high_counts: 4 << 32,
+        lows: [216172782650654721, 4194304, 0],
+        places: 209,
+        marks: 9,
+        mark_counts: 2 << 32,
+        back: 3,
     }
-    Ok(bytes)
 }
 
-/// The image of these ids by number, with the order that is made.
-fn image_of(alloc: Global, ids: &[IdNumber]) -> Result<Image, Fail>
-    requires few { length ids.now ≤ 16777216 }
-    requires names { AreDistinctIds ids.now }
-{
-    let words = make(alloc, ids)?;
-    Ok(Image {
-        count: ids.len(),
-        ids: bytes_of(alloc, words.ids.as_slice())?,
-        order: bytes_of(alloc, words.order.as_slice())?,
-    })
+/// Five names in one cycle: 2, 3, 4, 5, 1.
+fn five() -> Words {
+    Words {
+        count: 5,
+        low: 28,
+        marked: 2,
+        high: 31,
+        high_counts: 5 << 32,
+        lows: [216172782650654721, 1407374887747584, 0],
+        places: 2257,
+        marks: 9,
+        mark_counts: 2 << 32,
+        back: 3,
+    }
 }
 
 /// The names of an image, or the first fault. None where its sizes do not fit.
@@ -44,31 +51,27 @@ fn open<'a, C: Ledger>(
     alloc: Global,
     image: &'a Image,
     blank: Blank,
-) -> Option<Result<NamesView<'a>, u64>>
+) -> Option<Result<NamesView<'a>, NameFault>>
     requires name { blank.name ≡ C.name }
     requires parts { blank.parts ≡ C.parts }
     requires some { 0 < blank.parts }
 {
     let mut steps = Steps::<C>::new(alloc, blank);
-    let id_words = WordView::new(image.ids.as_slice())?;
-    let order_words = WordView::new(image.order.as_slice())?;
-    if image.count > 16777216 {
-        return None;
-    }
-    let words = image.count.div_ceil(2);
-    if words > id_words.len() || words > order_words.len() {
-        return None;
-    }
-    let ids = PackedView::new(id_words, image.count, 32);
-    let order = PackedView::new(order_words, image.count, 32);
-    match check(ids, order, &mut steps) {
-        Ok(()) => Some(Ok(NamesView::new(ids, order))),
-        Err(place) => Some(Err(place)),
+    let parts = parts_of(image)?;
+    match check(parts, &mut steps) {
+        Ok(()) => Some(Ok(NamesView::new(parts))),
+        Err(fault) => Some(Err(fault)),
     }
 }
 
-/// Whether these are the ids by number, each found.
-fn has_ids<C: Ledger>(alloc: Global, names: NamesView<'_>, ids: &[IdNumber], blank: Blank) -> bool
+/// Whether these are the ids by number, each found, and the others are found at no number.
+fn has_ids<C: Ledger>(
+    alloc: Global,
+    names: NamesView<'_>,
+    ids: &[IdNumber],
+    others: &[IdNumber],
+    blank: Blank,
+) -> bool
     requires name { blank.name ≡ C.name }
     requires parts { blank.parts ≡ C.parts }
     requires some { 0 < blank.parts }
@@ -83,129 +86,309 @@ fn has_ids<C: Ledger>(alloc: Global, names: NamesView<'_>, ids: &[IdNumber], bla
             return false;
         }
     }
+    for id in others {
+        if names.number_of(*id, &mut steps).is_some() {
+            return false;
+        }
+    }
     true
 }
 
-/// The number that has this id.
-fn found<C: Ledger>(
+/// Whether the names of these words are these ids by number, and no others.
+fn agrees(
     alloc: Global,
-    names: NamesView<'_>,
-    id: IdNumber,
-    blank: Blank,
-) -> Option<usize>
-    requires name { blank.name ≡ C.name }
-    requires parts { blank.parts ≡ C.parts }
-    requires some { 0 < blank.parts }
-{
-    let mut steps = Steps::<C>::new(alloc, blank);
-    names.number_of(id, &mut steps)
+    words: Words,
+    ids: &[IdNumber],
+    others: &[IdNumber],
+) -> Result<bool, Fail> {
+    let image = image_of(alloc, words)?;
+    match open::<Brand>(alloc, &image, Blank::new(1)) {
+        Some(Ok(names)) => Ok(has_ids::<Brand>(alloc, names, ids, others, Blank::new(1))),
+        _ => Ok(false),
+    }
 }
 
-/// What `check` says of one or two names. None where their sizes do not fit.
-fn fault(
-    alloc: Global,
-    count: usize,
-    id_words: u64,
-    order_words: u64,
-) -> Result<Option<Result<(), u64>>, Fail> {
-    let image = Image {
-        count,
-        ids: bytes_of(alloc, &[id_words])?,
-        order: bytes_of(alloc, &[order_words])?,
-    };
+/// What `check` says of these words. None where their sizes do not fit.
+fn told(alloc: Global, words: Words) -> Result<Option<Result<(), NameFault>>, Fail> {
+    let image = image_of(alloc, words)?;
     match open::<Brand>(alloc, &image, Blank::new(1)) {
-        Some(Err(place)) => Ok(Some(Err(place))),
+        Some(Err(fault)) => Ok(Some(Err(fault))),
         Some(Ok(_)) => Ok(Some(Ok(()))),
         None => Ok(None),
     }
 }
 
 #[test]
-fn three_names_are_ordered_and_found(rt: HostRuntime) -> Result<(), Fail> {
-    let ids = [2, 1, 3];
-    let words = make(rt.alloc(), &ids)?;
-    assert_eq!(rt; words.ids.as_slice(), [(1 << 32) + 2, 3].as_slice());
-    assert_eq!(rt; words.order.as_slice(), [1, 2].as_slice());
-    let image = image_of(rt.alloc(), &ids)?;
-    let Some(Ok(names)) = open::<Brand>(rt.alloc(), &image, Blank::new(1)) else {
-        panic!(rt; "the names are refused");
-    };
-    assert!(rt; has_ids::<Brand>(rt.alloc(), names, &ids, Blank::new(1)));
-    assert_eq!(rt;
-        found::<Brand>(rt.alloc(), names, 3, Blank::new(1)),
-        Some(2)
-    );
-    assert_eq!(rt; found::<Brand>(rt.alloc(), names, 4, Blank::new(1)), None);
-    Ok(())
-}
-
-#[test]
-fn no_names_find_nothing(rt: HostRuntime) -> Result<(), Fail> {
-    let image = image_of(rt.alloc(), &[])?;
-    let Some(Ok(names)) = open::<Brand>(rt.alloc(), &image, Blank::new(1)) else {
-        panic!(rt; "the names are refused");
-    };
-    assert_eq!(rt; names.count(), 0);
-    assert_eq!(rt; found::<Brand>(rt.alloc(), names, 1, Blank::new(1)), None);
-    Ok(())
-}
-
-#[test]
-fn one_name_of_the_greatest_id_is_found(rt: HostRuntime) -> Result<(), Fail> {
-    let image = image_of(rt.alloc(), &[LARGEST_ID])?;
-    let Some(Ok(names)) = open::<Brand>(rt.alloc(), &image, Blank::new(1)) else {
-        panic!(rt; "the names are refused");
-    };
-    assert!(rt; has_ids::<Brand>(rt.alloc(), names, &[LARGEST_ID], Blank::new(1)));
-    assert_eq!(rt;
-        found::<Brand>(rt.alloc(), names, LARGEST_ID - 1, Blank::new(1)),
-        None
-    );
-    Ok(())
-}
-
-#[test]
-fn falling_ids_are_found(rt: HostRuntime) -> Result<(), Fail> {
-    let ids = [50, 40, 30, 20, 10];
-    let image = image_of(rt.alloc(), &ids)?;
-    let Some(Ok(names)) = open::<Brand>(rt.alloc(), &image, Blank::new(1)) else {
-        panic!(rt; "the names are refused");
-    };
-    assert!(rt; has_ids::<Brand>(rt.alloc(), names, &ids, Blank::new(1)));
-    assert_eq!(rt; found::<Brand>(rt.alloc(), names, 5, Blank::new(1)), None);
-    assert_eq!(rt; found::<Brand>(rt.alloc(), names, 35, Blank::new(1)), None);
-    assert_eq!(rt; found::<Brand>(rt.alloc(), names, 55, Blank::new(1)), None);
-    Ok(())
-}
-
-#[test]
-fn each_kind_of_fault_is_named(rt: HostRuntime) -> Result<(), Fail> {
+fn names_in_cycles_are_asked_both_ways(rt: HostRuntime) -> Result<(), Fail> {
     let alloc = rt.alloc();
+    let three = Words {
+        count: 3,
+        low: 29,
+        marked: 0,
+        high: 7,
+        high_counts: 3 << 32,
+        lows: [864691129528877057, 0, 0],
+        places: 33,
+        marks: 0,
+        mark_counts: 0,
+        back: 0,
+    };
+    assert!(rt; agrees(alloc, three, &[2, 1, 3], &[0, 4, 2147483647])?);
+    assert!(rt; agrees(alloc, four(), &[2, 3, 4, 1], &[0, 5, 268435457])?);
+    assert!(rt; agrees(alloc, five(), &[2, 3, 4, 5, 1], &[0, 6, 4294967295])?);
+    Ok(())
+}
+
+#[test]
+fn high_parts_are_told_apart(rt: HostRuntime) -> Result<(), Fail> {
+    let alloc = rt.alloc();
+    let spread = Words {
+        count: 3,
+        low: 2,
+        marked: 0,
+        high: 41,
+        high_counts: 3 << 32,
+        lows: [39, 0, 0],
+        places: 18,
+        marks: 0,
+        mark_counts: 0,
+        back: 0,
+    };
+    assert!(rt; agrees(alloc, spread, &[14, 3, 9], &[1, 5, 8, 10, 13, 15, 16, 17])?);
+    let last = Words {
+        count: 1,
+        low: 1,
+        high: 2,
+        high_counts: 1 << 32,
+        lows: [1, 0, 0],
+        places: 0,
+        ..spread
+    };
+    assert!(rt; agrees(alloc, last, &[3], &[0, 1, 2, 4, 5, 7, 9223372036854775807])?);
+    let behind = Words { high: 4, ..last };
     assert_eq!(rt;
-        fault(alloc, 1, 7, 1)?,
-        Some(Err(0)),
-        "a number that there isn't"
+        told(alloc, behind)?,
+        Some(Err(NameFault::Rising { at: 0 })),
+        "a high part too great"
     );
-    assert_eq!(rt; fault(alloc, 1, 0, 0)?, Some(Err(0)), "an id of 0");
-    assert_eq!(rt;
-        fault(alloc, 1, 1 << 31, 0)?,
-        Some(Err(0)),
-        "an id above the greatest"
+    Ok(())
+}
+
+#[test]
+fn the_greatest_id_and_no_names_are_taken(rt: HostRuntime) -> Result<(), Fail> {
+    let alloc = rt.alloc();
+    let nothing = Words {
+        count: 0,
+        low: 31,
+        marked: 0,
+        high: 0,
+        high_counts: 0,
+        lows: [0, 0, 0],
+        places: 0,
+        marks: 0,
+        mark_counts: 0,
+        back: 0,
+    };
+    assert!(rt; agrees(alloc, nothing, &[], &[0, 1, 2147483647, 2147483648])?);
+    let greatest = Words {
+        count: 1,
+        low: 30,
+        high: 2,
+        high_counts: 1 << 32,
+        lows: [1073741823, 0, 0],
+        ..nothing
+    };
+    assert!(rt;
+        agrees(
+            alloc,
+            greatest,
+            &[2147483647],
+            &[1073741823, 2147483646, 2147483648]
+        )?
     );
-    assert_eq!(rt;
-        fault(alloc, 2, (1 << 32) + 2, 1 << 32)?,
-        Some(Err(1)),
-        "a falling id"
+    Ok(())
+}
+
+#[test]
+fn ids_of_63_bits_are_taken(rt: HostRuntime) -> Result<(), Fail> {
+    let alloc = rt.alloc();
+    let greatest = Words {
+        count: 1,
+        low: 62,
+        marked: 0,
+        high: 2,
+        high_counts: 1 << 32,
+        lows: [4611686018427387903, 0, 0],
+        places: 0,
+        marks: 0,
+        mark_counts: 0,
+        back: 0,
+    };
+    let others = [
+        0,
+        1,
+        2147483647,
+        4611686018427387903,
+        9223372036854775806,
+        9223372036854775808,
+        18446744073709551615,
+    ];
+    assert!(rt; agrees(alloc, greatest, &[9223372036854775807], &others)?);
+    let least = Words {
+        high: 1,
+        lows: [1, 0, 0],
+        ..greatest
+    };
+    assert!(rt;
+        agrees(
+            alloc,
+            least,
+            &[1],
+            &[0, 2, 4611686018427387905, 9223372036854775807]
+        )?
     );
+    let behind = Words {
+        high: 4,
+        ..greatest
+    };
     assert_eq!(rt;
-        fault(alloc, 2, (1 << 32) + 1, 1 << 32)?,
-        Some(Err(1)),
+        told(alloc, behind)?,
+        Some(Err(NameFault::Rising { at: 0 })),
+        "not below 2 ^ 63"
+    );
+    let nothing = Words {
+        count: 0,
+        low: 63,
+        high: 0,
+        high_counts: 0,
+        ..greatest
+    };
+    assert!(rt;
+        agrees(
+            alloc,
+            nothing,
+            &[],
+            &[0, 1, 9223372036854775807, 18446744073709551615]
+        )?
+    );
+    Ok(())
+}
+
+#[test]
+fn each_fault_of_the_ids_is_named(rt: HostRuntime) -> Result<(), Fail> {
+    let alloc = rt.alloc();
+    assert_eq!(rt; told(alloc, four())?, Some(Ok(())));
+    assert_eq!(rt;
+        told(alloc, Words { low: 61, ..four() })?,
+        None,
+        "sizes that do not fit"
+    );
+    let counts = Words {
+        high_counts: 3 << 32,
+        ..four()
+    };
+    assert_eq!(rt;
+        told(alloc, counts)?,
+        Some(Err(NameFault::HighCounts { at: 1 }))
+    );
+    let ones = Words {
+        high: 7,
+        high_counts: 3 << 32,
+        ..four()
+    };
+    assert_eq!(rt; told(alloc, ones)?, Some(Err(NameFault::Ones { found: 3 })));
+    let nought = Words {
+        lows: [0, 0, 0],
+        ..four()
+    };
+    assert_eq!(rt;
+        told(alloc, nought)?,
+        Some(Err(NameFault::Rising { at: 0 })),
+        "an id of 0"
+    );
+    let twice = Words {
+        lows: [268435457, 0, 0],
+        ..four()
+    };
+    assert_eq!(rt;
+        told(alloc, twice)?,
+        Some(Err(NameFault::Rising { at: 1 })),
         "an id twice"
     );
+    let great = Words {
+        high: 15 << 8,
+        ..four()
+    };
     assert_eq!(rt;
-        fault(alloc, 2, (1 << 32) + 2, 1)?,
-        Some(Ok(())),
-        "no fault"
+        told(alloc, great)?,
+        Some(Err(NameFault::Rising { at: 0 })),
+        "too great"
+    );
+    Ok(())
+}
+
+#[test]
+fn each_fault_of_the_numbers_is_named(rt: HostRuntime) -> Result<(), Fail> {
+    let alloc = rt.alloc();
+    let counts = Words {
+        mark_counts: 3 << 32,
+        places: 212,
+        ..four()
+    };
+    assert_eq!(rt;
+        told(alloc, counts)?,
+        Some(Err(NameFault::MarkCounts { at: 1 }))
+    );
+    let ones = Words {
+        marks: 1,
+        mark_counts: 1 << 32,
+        places: 212,
+        ..four()
+    };
+    assert_eq!(rt;
+        told(alloc, ones)?,
+        Some(Err(NameFault::MarkOnes { found: 1 }))
+    );
+    let none = Words {
+        places: 212,
+        ..four()
+    };
+    assert_eq!(rt;
+        told(alloc, none)?,
+        Some(Err(NameFault::Order { at: 0 })),
+        "no such place"
+    );
+    let shared = Words {
+        places: 193,
+        ..four()
+    };
+    assert_eq!(rt;
+        told(alloc, shared)?,
+        Some(Err(NameFault::Order { at: 1 })),
+        "a place of two"
+    );
+    let unmarked = Words {
+        marked: 0,
+        marks: 0,
+        mark_counts: 0,
+        ..five()
+    };
+    assert_eq!(rt;
+        told(alloc, unmarked)?,
+        Some(Err(NameFault::Order { at: 0 })),
+        "too far"
+    );
+    let forward = Words { back: 24, ..five() };
+    assert_eq!(rt;
+        told(alloc, forward)?,
+        Some(Err(NameFault::Order { at: 0 })),
+        "not back"
+    );
+    let outside = Words { back: 7, ..five() };
+    assert_eq!(rt;
+        told(alloc, outside)?,
+        Some(Err(NameFault::Order { at: 3 })),
+        "to no number"
     );
     Ok(())
 }

@@ -93,6 +93,9 @@ module _ (regions : List RegionRow) (members : List MemberRow) (faces : List Fac
       let b = and_parts _ _ a.0 in
       leb-true _ _ (and_parts _ _ b.0).1
 
+  pub few_members : is_in_range (region_tables regions members faces) ≡ true → length members ≤ 16777217
+  few_members h = leb-true _ _ (and_parts _ _ h).1
+
   pub few_regions : is_in_range (region_tables regions members faces) ≡ true → length regions ≤ 16777216
   few_regions h =
       let a = and_parts _ _ h in

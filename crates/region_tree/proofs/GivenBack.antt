@@ -6,6 +6,7 @@ use Rattle.std.proofs.lemmas.Bool.{cases_Bool, and_parts, and_from, both_ways, e
 use Rattle.bit_words.proofs.Finds.{find-least}
 use Rattle.id_names.specs.Names.{AreDistinctIds, number_of}
 use Rattle.orbits.proofs.Numbers.{has_place, place_in}
+use Rattle.topo_base.specs.declared.id.TheConstants.{LARGEST_ID}
 use Rattle.plane_model.specs.declared.rows.RegionRow.{RegionRow}
 use Rattle.plane_model.specs.declared.rows.MemberRow.{MemberRow}
 use Rattle.plane_model.specs.InRange.{is_in_range, is_id, is_none_or}
@@ -108,13 +109,13 @@ module _ (t : Rows) (range : is_in_range t ≡ true) (h : is_region_forest t ≡
   apart : is_distinct ids ≡ true
   apart = ids_apart m forest
 
-  id_fits : (x : ℕ) → has ids x ≡ true → (1 ≤ x) × (x ≤ Rattle.topo_base.specs.declared.id.TheConstants.LARGEST_ID)
+  id_fits : (x : ℕ) → has ids x ≡ true → (1 ≤ x) × (x < LARGEST_ID + 1)
   id_fits x there =
       let fine = among is_id (map (λ (r : RegionRow). r.id) t.regions) x (ids_fit t range) (sym (rising-has (map (λ (r : RegionRow). r.id) t.regions) x) ∙ sym (ids_are m forest x) ∙ there) in
       let p = and_parts _ _ fine in
-      (leb-true _ _ p.0, leb-true _ _ p.1)
+      (leb-true _ _ p.0, omega (arith, leb-true _ _ p.1))
 
-  names : AreDistinctIds ids
+  names : AreDistinctIds (LARGEST_ID + 1) ids
   names = record {
     in_range = λ k l. id_fits (slice_index ids k) (has_place ids k l);
     distinct = λ j k lj lk e. apart_places ids apart j k lj lk e;

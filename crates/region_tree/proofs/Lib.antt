@@ -15,6 +15,7 @@ pub mod Renamed
 pub mod Stacks
 pub mod Forests
 pub mod Readied
+pub mod RisingIds
 pub mod GivenBack
 pub mod Built
 pub mod ByNumber

@@ -8,13 +8,12 @@ use Rattle.topo_base.specs.declared.refusal.Table.TheVariants as table
 use Rattle.plane_model.specs.declared.rows.RegionRow.{RegionRow}
 use Rattle.plane_model.specs.declared.rows.MemberRow.{MemberRow}
 use Rattle.plane_model.specs.Rows.{Rows}
-use Rattle.plane_model.specs.Sets.{has, rising, or_else}
+use Rattle.plane_model.specs.Sets.{has, or_else}
 use Rattle.plane_model.specs.PlaneMap.{map_of}
 use Rattle.plane_model.specs.Rotation.{is_face}
 use Rattle.plane_model.specs.Regions.{is_region}
 use Rattle.plane_model.specs.Faults.{first_in, unless, no_parent, no_member_region, no_member_face}
 use Rattle.plane_model.proofs.FaultParts.{has_key_at}
-use Rattle.plane_model.proofs.Sorting.{rising-has}
 use Rattle.rotation_check.proofs.RowLemmas.{is_face-has}
 use Rattle.region_tree.specs.Checked.{missing_parent, missing_region, missing_face}
 
@@ -50,11 +49,11 @@ module _ (t : Rows) (ids : List ℕ) (is : ids ≡ (map_of t).regions.keys) wher
   pub regions-fault : (rows : List MemberRow) → first_in (missing_region ids) rows ≡ first_in (no_member_region (map_of t)) rows
   regions-fault rows = first_in-same (missing_region ids) (no_member_region (map_of t)) rows (λ x. ap (λ b. unless b (refusal.NoRegion table.Member x.face x.region)) (region-has x.region))
 
-module _ (t : Rows) (ids : List ℕ) (is : ids ≡ rising (map (λ r. r.id) t.faces)) where
+module _ (t : Rows) (ids : List ℕ) (is : ids ≡ map (λ r. r.id) t.faces) where
   face-has : (f : ℕ) → ((f == 0) || has ids f) ≡ is_face (map_of t) f
   face-has f = elim (cases_Bool (f == 0)) [
     | inl outer ↦ rw outer refl
-    | inr some ↦ rw some (ap (λ xs. has xs f) is ∙ rising-has (map (λ r. r.id) t.faces) f ∙ sym (rw some at (is_face-has t f some)))
+    | inr some ↦ rw some (ap (λ xs. has xs f) is ∙ sym (rw some at (is_face-has t f some)))
   ]
 
   pub faces-fault : (rows : List MemberRow) → first_in (missing_face ids) rows ≡ first_in (no_member_face (map_of t)) rows

@@ -1,11 +1,12 @@
 -- Regions by number that give a map's regions and members back.
-use Rattle.std.specs.Prelude.{ℕ, ◌≡◌, ◌*◌, ◌<◌, ◌==◌, Bool, true, List, length, map, find, slice_get, slice_index, Option, Some, option_map, IsTrue}
+use Rattle.std.specs.Prelude.{ℕ, ◌≡◌, ◌+◌, ◌*◌, ◌<◌, ◌==◌, Bool, true, List, length, map, find, slice_get, slice_index, Option, Some, option_map, IsTrue}
 use Rattle.bit_words.specs.Bits.{rank}
 use Rattle.parens.specs.Matching.{is_balanced}
 use Rattle.plane_model.specs.Sets.{has}
 use Rattle.plane_model.specs.PlaneMap.{PlaneMap}
 use Rattle.plane_model.specs.Regions.{parent}
 use Rattle.id_names.specs.Names.{AreDistinctIds}
+use Rattle.topo_base.specs.declared.id.TheConstants.{LARGEST_ID}
 use Rattle.region_tree.specs.Nesting.{parent_number}
 use Rattle.region_tree.specs.declared.parts.MemberPlace.{MemberPlace}
 
@@ -14,7 +15,7 @@ pub record AreNumbered (m : PlaneMap) (bits : List Bool) (ids : List ℕ) : Type
   pub balanced : IsTrue (is_balanced bits 0 (length bits))
   pub places : length bits ≡ 2 * length ids
   pub opens : rank true bits (length bits) ≡ length ids
-  pub names : AreDistinctIds ids
+  pub names : AreDistinctIds (LARGEST_ID + 1) ids
   pub many : length ids ≡ length m.regions.keys
   pub regions : (r : ℕ) → has ids r ≡ has m.regions.keys r
   pub parents : (x : ℕ) → x < length ids → parent m (slice_index ids x) ≡ option_map (slice_index ids) (parent_number bits x)

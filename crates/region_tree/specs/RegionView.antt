@@ -2,7 +2,7 @@
 use Rattle.std.specs.Prelude.{ℕ, Bool, List}
 use Rattle.bit_words.specs.PackedView.{fields_of}
 use Rattle.parens.specs.ParenView.{parens_of}
-use Rattle.id_names.specs.NamesView.{ids_of}
+use Rattle.id_names.specs.Views.{ids_of}
 use Rattle.region_tree.specs.declared.view.RegionView.{RegionView}
 
 pub record Regions : Type 0 where

@@ -5,6 +5,7 @@
 mod building;
 mod checks;
 mod cycles;
+mod faces;
 pub mod laws;
 mod members;
 mod numbering;

@@ -1,6 +1,6 @@
 //! Rows of members: what is wrong with them, and the numbers of their regions.
 
-ghost use Rattle.std.specs.Prelude.{◌≡◌, ◌≤◌, ◌<◌, ℕ, IfErr, IfOk, IsPermutation, List, true, None, OnOk, length, map, option_map, slice_get, Some};
+ghost use Rattle.std.specs.Prelude.{◌≡◌, ◌≤◌, ◌<◌, ◌^◌, ℕ, IfErr, IfOk, IsPermutation, List, true, None, OnOk, length, map, option_map, slice_get, Some};
 ghost use Rattle.std.specs.List.Sorted.{IsNonDecreasing, IsNonDecreasingBy};
 ghost use Rattle.topo_base.specs.declared.refusal.Refusal.TheVariants.{MemberTwice};
 ghost use Rattle.plane_model.specs.declared.rows.RegionRow.{RegionRow};
@@ -13,9 +13,10 @@ ghost use Rattle.region_tree.specs.MemberPlaces.{AreMemberPlaces, IsMemberPlace}
 ghost use Rattle.region_tree.specs.Tables.{region_map, region_tables};
 
 use crate::checks::refuse;
+use crate::faces::FaceIndex;
 use crate::parts::MemberPlace;
-use crate::rows::{face_ids, has_id, place_of};
-use plane_model::ids::{least_id_twice, rising_ids};
+use crate::rows::{has_id, place_of};
+use id_index::IdIndex;
 use plane_model::{FaceRow, MemberRow};
 use rotation_check::CheckFault;
 use std::alloc::{AllocError, Global};
@@ -52,35 +53,14 @@ fn first_missing_region(ids: &[IdNumber], rows: &[MemberRow]) -> Option<Refusal>
     None
 }
 
-/// What is wrong where a member's face is not there.
-fn missing_face(ids: &[IdNumber], row: &MemberRow) -> Option<Refusal>
-    requires few { length ids.now ≤ 16777216 }
-    requires rising { IsNonDecreasing ids.now }
-    ensures { result ≡ missing_face ids.now row.now }
+/// Nothing where each member's face is there, or what is wrong with the first whose face is not.
+fn check_faces(alloc: Global, members: &[MemberRow], faces: &[FaceRow]) -> Result<(), CheckFault>
+    requires { length faces.now ≤ 16777216 }
+    ensures fine { OnOk result (first_in (missing_face (map (λ f. f.id) faces.now)) members.now ≡ None) }
+    ensures refused { IfErr result (λ e. Names e (first_in (missing_face (map (λ f. f.id) faces.now)) members.now)) }
 {
-    if row.face == 0 || has_id(ids, row.face) {
-        return None;
-    }
-    Some(Refusal::NoFace {
-        table: Table::Member,
-        id: row.region,
-        face: row.face,
-    })
-}
-
-/// The first member whose face is not there.
-fn first_missing_face(ids: &[IdNumber], rows: &[MemberRow]) -> Option<Refusal>
-    requires few { length ids.now ≤ 16777216 }
-    requires rising { IsNonDecreasing ids.now }
-    ensures { result ≡ first_in (missing_face ids.now) rows.now }
-{
-    for row in rows {
-        let fault = missing_face(ids, row);
-        if fault.is_some() {
-            return fault;
-        }
-    }
-    None
+    let index = FaceIndex::new(alloc, faces)?;
+    refuse(index.first_missing(members))
 }
 
 /// The faces of rows.
@@ -92,10 +72,11 @@ fn member_faces(alloc: Global, rows: &[MemberRow]) -> Result<Vec<IdNumber>, Allo
 
 /// The least face that stands in two rows.
 fn repeated_face(alloc: Global, rows: &[MemberRow]) -> Result<Option<Refusal>, AllocError>
+    requires { length rows.now < 2 ^ 32 }
     ensures { IfOk result (λ fault. fault ≡ option_map MemberTwice (least_twice (map (λ x. x.face) rows.now))) }
 {
-    let faces = member_faces(alloc, rows)?;
-    Ok(least_id_twice(faces).map(|face| Refusal::MemberTwice { face }))
+    let index = IdIndex::new(alloc, &member_faces(alloc, rows)?)?;
+    Ok(index.repeated().map(|face| Refusal::MemberTwice { face }))
 }
 
 /// Nothing where each member's region and face are there and no face is a member twice, or what is first wrong with
@@ -108,13 +89,13 @@ pub fn check_members(
 ) -> Result<(), CheckFault>
     requires few { length ids.now ≤ 16777216 }
     requires rising { IsNonDecreasing ids.now }
+    requires few_members { length members.now < 2 ^ 32 }
     requires few_faces { length faces.now ≤ 16777216 }
     ensures fine { OnOk result ((regions : List RegionRow) → ids.now ≡ (region_map regions members.now faces.now).regions.keys → member_fault (region_tables regions members.now faces.now) ≡ None) }
     ensures refused { IfErr result (λ e. (regions : List RegionRow) → ids.now ≡ (region_map regions members.now faces.now).regions.keys → Names e (member_fault (region_tables regions members.now faces.now))) }
 {
     refuse(first_missing_region(ids, members))?;
-    let face_ids = rising_ids(face_ids(alloc, faces)?);
-    refuse(first_missing_face(&face_ids, members))?;
+    check_faces(alloc, members, faces)?;
     refuse(repeated_face(alloc, members)?)
 }
 

@@ -7,9 +7,11 @@ ghost use Rattle.plane_model.specs.InRange.{is_face_id, is_id, is_in_range, is_n
 ghost use Rattle.region_tree.specs.RegionView.{regions_of};
 ghost use Rattle.region_tree.specs.Tables.{region_tables};
 
+mod names;
+
+use crate::tests::names::{NamesImage, names_image, names_in};
 use crate::{MemberPlace, RegionParts, RegionView, build};
 use bit_words::{BitMaker, BitView, PackedMaker, PackedView, Steps, WordView};
-use id_names::NamesView;
 use min_max_tree::MinMaxView;
 use parens::{ParenView, check_balanced};
 use plane_model::{FaceRow, MemberRow, RegionRow};
@@ -252,13 +254,11 @@ fn faults_come_in_their_order(rt: HostRuntime) -> Result<(), Fail> {
 #[derive(Drop)]
 struct Image {
     places: usize,
-    regions: usize,
     faces: usize,
     bits: Vec<u8>,
     counts: Vec<u8>,
     nodes: Vec<u8>,
-    ids: Vec<u8>,
-    order: Vec<u8>,
+    names: NamesImage,
     members: Vec<u8>,
 }
 
@@ -304,30 +304,30 @@ fn image_of(alloc: Global, tables: &Tables, members: &[u32]) -> Result<Image, Fa
     let maker = bit_maker(alloc, &parts.bits)?;
     let counts = rank_select::make_counts(alloc, &maker)?;
     let nodes = min_max_tree::make(alloc, &maker)?;
-    let names = id_names::make(alloc, &parts.ids)?;
     Ok(Image {
         places: parts.bits.len(),
-        regions: parts.ids.len(),
         faces: members.len(),
         bits: bytes_of(alloc, maker.finish().as_slice())?,
         counts: bytes_of(alloc, counts.finish().as_slice())?,
         nodes: bytes_of(alloc, nodes.as_slice())?,
-        ids: bytes_of(alloc, names.ids.as_slice())?,
-        order: bytes_of(alloc, names.order.as_slice())?,
+        names: names_image(alloc, &parts.ids)?,
         members: bytes_of(alloc, packed(alloc, members)?.finish().as_slice())?,
     })
 }
 
-/// Fields of 32 bits in bytes. None where they don't fit.
-fn fields_in<'a>(bytes: &'a [u8], count: usize) -> Option<PackedView<'a>>
+/// The first `count` numbers of `width` bits in these bytes. None where there are too few.
+fn fields_in(bytes: &[u8], count: usize, width: u32) -> Option<PackedView<'_>>
     ensures count { IfSome result (λ fields. length (fields_of fields) ≡ count) }
-    ensures width { IfSome result (λ fields. width_of fields ≡ 32) }
+    ensures width { IfSome result (λ fields. width_of fields ≡ width) }
 {
     let words = WordView::new(bytes)?;
-    if count > 2147483647 || count.div_ceil(2) > words.len() {
+    if width == 0 || width > 64 || count > 2147483647 {
         return None;
     }
-    Some(PackedView::new(words, count, 32))
+    if (count * width as usize).div_ceil(64) > words.len() {
+        return None;
+    }
+    Some(PackedView::new(words, count, width))
 }
 
 /// The parentheses of an image.
@@ -339,7 +339,7 @@ fn parens_in<'a, C: Ledger>(image: &'a Image, steps: &mut Steps<C>) -> Option<Pa
         return None;
     }
     let bits = BitView::new(words, places);
-    let counts = fields_in(image.counts.as_slice(), places.div_ceil(512) + 1)?;
+    let counts = fields_in(image.counts.as_slice(), places.div_ceil(512) + 1, 32)?;
     if nodes.len() != min_max_tree::node_count(places) {
         return None;
     }
@@ -347,17 +347,6 @@ fn parens_in<'a, C: Ledger>(image: &'a Image, steps: &mut Steps<C>) -> Option<Pa
     min_max_tree::check(bits, nodes, steps).ok()?;
     check_balanced(bits, 0, places, steps).ok()?;
     Some(ParenView::new(RankView::new(bits, counts), MinMaxView::new(bits, nodes)))
-}
-
-/// The names of an image.
-fn names_in<'a, C: Ledger>(image: &'a Image, steps: &mut Steps<C>) -> Option<NamesView<'a>> {
-    if image.regions > 16777216 {
-        return None;
-    }
-    let ids = fields_in(image.ids.as_slice(), image.regions)?;
-    let order = fields_in(image.order.as_slice(), image.regions)?;
-    id_names::check(ids, order, steps).ok()?;
-    Some(NamesView::new(ids, order))
 }
 
 /// Whether no field is above a number.
@@ -377,8 +366,8 @@ fn open<'a, C: Ledger>(image: &'a Image, steps: &mut Steps<C>) -> Option<RegionV
     ensures { IfSome result (λ view. length (regions_of view).members ≡ image.now.faces) }
 {
     let tree = parens_in(image, steps)?;
-    let names = names_in(image, steps)?;
-    let members = fields_in(image.members.as_slice(), image.faces)?;
+    let names = names_in(&image.names, steps)?;
+    let members = fields_in(image.members.as_slice(), image.faces, 32)?;
     if tree.opens_before(tree.len(), steps) != names.count() {
         return None;
     }
@@ -396,6 +385,7 @@ struct Asked {
     common: [Option<usize>; 3],
     ids: [IdNumber; 2],
     numbers: [Option<usize>; 3],
+    rising: [usize; 2],
 }
 
 fn answers<C: Ledger>(alloc: Global, image: &Image, blank: Blank) -> Option<Asked>
@@ -429,6 +419,7 @@ fn answers<C: Ledger>(alloc: Global, image: &Image, blank: Blank) -> Option<Aske
             view.number_of(2, &mut steps),
             view.number_of(3, &mut steps),
         ],
+        rising: [view.number_at(0, &mut steps), view.number_at(1, &mut steps)],
     })
 }
 
@@ -449,7 +440,8 @@ fn two_regions_are_asked(rt: HostRuntime) -> Result<(), Fail> {
             parents: [None, Some(0)],
             common: [Some(0), Some(0), Some(1)],
             ids: [1, 2],
-            numbers: [Some(0), Some(1), None]
+            numbers: [Some(0), Some(1), None],
+            rising: [0, 1]
         })
     );
     let beside = rows(alloc, &[(1, None), (2, None)], &[(1, 0), (2, 1)], &[1])?;
@@ -461,7 +453,26 @@ fn two_regions_are_asked(rt: HostRuntime) -> Result<(), Fail> {
             parents: [None, None],
             common: [None, None, Some(1)],
             ids: [1, 2],
-            numbers: [Some(0), Some(1), None]
+            numbers: [Some(0), Some(1), None],
+            rising: [0, 1]
+        })
+    );
+    let far = rows(
+        alloc,
+        &[(1, Some(LARGEST_ID)), (LARGEST_ID, None)],
+        &[(LARGEST_ID, 0), (1, LARGEST_ID)],
+        &[LARGEST_ID],
+    )?;
+    let image = image_of(alloc, &far, &[1, 0, 2])?;
+    assert_eq!(rt;
+        answers::<Brand>(alloc, &image, Blank::new(1)),
+        Some(Asked {
+            regions: [Some(0), None, Some(1)],
+            parents: [None, Some(0)],
+            common: [Some(0), Some(0), Some(1)],
+            ids: [LARGEST_ID, 1],
+            numbers: [Some(1), None, None],
+            rising: [1, 0]
         })
     );
     Ok(())
@@ -546,6 +557,10 @@ fn sampled<C: Ledger>(alloc: Global, image: &Image, shape: Shape, blank: Blank) 
             return Some(false);
         }
         if view.id_of(other, &mut steps) as usize != shape.id(other) {
+            return Some(false);
+        }
+        let risen = view.number_at(other, &mut steps);
+        if view.id_of(risen, &mut steps) as usize != other + 1 {
             return Some(false);
         }
     }

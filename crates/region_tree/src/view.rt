@@ -4,7 +4,7 @@ ghost use Rattle.std.specs.Prelude.{◌≡◌, ◌<◌, ◌≤◌, ℕ, length, 
 ghost use Rattle.bit_words.specs.Bits.{rank};
 ghost use Rattle.bit_words.specs.PackedView.{fields_of};
 ghost use Rattle.parens.specs.ParenView.{parens_of};
-ghost use Rattle.id_names.specs.NamesView.{ids_of};
+ghost use Rattle.id_names.specs.Views.{ids_of};
 
 use bit_words::{PackedView, Steps};
 use id_names::NamesView;
@@ -29,7 +29,9 @@ impl<'a> RegionView<'a> {
     ghost use Rattle.bit_words.specs.PackedView.{fields_of};
     ghost use Rattle.parens.specs.ParenView.{parens_of};
     ghost use Rattle.id_names.specs.Names.{AreDistinctIds, number_of};
-    ghost use Rattle.id_names.specs.NamesView.{ids_of};
+    ghost use Rattle.id_names.specs.Views.{ids_of};
+    ghost use Rattle.plane_model.specs.Sets.{rising};
+    ghost use Rattle.topo_base.specs.declared.id.TheConstants.{LARGEST_ID};
     ghost use Rattle.parens.specs.Matching.{is_open};
     ghost use Rattle.region_tree.specs.Nesting.{common_number, opening, parent_number, region_at};
     ghost use Rattle.region_tree.specs.RegionView.{regions_of};
@@ -54,7 +56,7 @@ impl<'a> RegionView<'a> {
         ensures count { result ≡ length (regions_of self.now).ids }
         ensures open { result ≡ rank true (regions_of self.now).bits (length (regions_of self.now).bits) }
         ensures few { result ≤ 16777216 }
-        ensures names { AreDistinctIds (regions_of self.now).ids }
+        ensures names { AreDistinctIds (LARGEST_ID + 1) (regions_of self.now).ids }
     {
         self.names.count()
     }
@@ -129,7 +131,7 @@ impl<'a> RegionView<'a> {
         requires { region < length (regions_of self.now).ids }
         ensures id { result ≡ slice_index (regions_of self.now).ids region }
         ensures some_steps { steps.old + 1 ≤ steps.new }
-        ensures cost { steps.new ≤ steps.old + 2 }
+        ensures cost { steps.new ≤ steps.old + 3 * digits (length (regions_of self.now).ids + 2) + 20 }
     {
         self.names.id_of(region, steps)
     }
@@ -139,8 +141,19 @@ impl<'a> RegionView<'a> {
         ensures number { result ≡ number_of (regions_of self.now).ids id }
         ensures found { MatchOption result ((k : ℕ) → k < length (regions_of self.now).ids → slice_index (regions_of self.now).ids k ≢ id) (λ region. (region < length (regions_of self.now).ids) × (slice_index (regions_of self.now).ids region ≡ id)) }
         ensures grows { steps.old ≤ steps.new }
-        ensures cost { steps.new ≤ steps.old + 4 * digits (length (regions_of self.now).ids + 2) + 6 }
+        ensures cost { steps.new ≤ steps.old + 12 * digits (length (regions_of self.now).ids + 2) + 60 }
     {
         self.names.number_of(id, steps)
+    }
+
+    /// The region whose id is at this place of the ids in rising order.
+    pub fn number_at<C: Ledger>(&self, place: usize, steps: &mut Steps<C>) -> usize
+        requires { place < length (regions_of self.now).ids }
+        ensures within { result < length (regions_of self.now).ids }
+        ensures id { slice_index (regions_of self.now).ids result ≡ slice_index (rising (regions_of self.now).ids) place }
+        ensures grows { steps.old ≤ steps.new }
+        ensures cost { steps.new ≤ steps.old + 4 * digits (length (regions_of self.now).ids + 2) + 20 }
+    {
+        self.names.number_at(place, steps)
     }
 }

@@ -1,8 +1,5 @@
-use Rattle.id_names.proofs.NameLaws.{names_pass, names_from_test, right_names}
+use Rattle.id_names.proofs.NumberLaws.{names_pass, names_from_test}
 use Rattle.id_names.proofs.laws.distinct_ids.Goals as goal
 
-pub returns-clause-test : goal.returns-clause-test
-returns-clause-test c = λ ids. (names_from_test ids, names_pass ids)
-
-pub returns-clause-right : goal.returns-clause-right
-returns-clause-right c = right_names
+pub returns : goal.returns
+returns c = record { test = λ bound ids. (names_from_test bound ids, names_pass bound ids) }

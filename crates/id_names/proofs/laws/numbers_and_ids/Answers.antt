@@ -1,5 +1,5 @@
 use Rattle.std.proofs.Common.{get_or, refl}
-use Rattle.id_names.proofs.NameLaws.{number_of-found, number_of-missing, number_of-at}
+use Rattle.id_names.proofs.NumberLaws.{number_of-found, number_of-missing, number_of-at}
 use Rattle.id_names.proofs.laws.numbers_and_ids.Goals as goal
 
 pub returns-clause-found : goal.returns-clause-found

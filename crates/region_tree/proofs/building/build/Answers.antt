@@ -14,7 +14,7 @@ use Rattle.region_tree.specs.Parts.{member_places, region_ids}
 use Rattle.region_tree.specs.Ready.{IsReady}
 use Rattle.region_tree.specs.Tables.{region_map, region_tables}
 use Rattle.region_tree.proofs.RegionRows.{names_first}
-use Rattle.region_tree.proofs.Built.{fault-parts, few_faces, ids_few, ids_rise, no_fault, forest_from, is_ready}
+use Rattle.region_tree.proofs.Built.{fault-parts, few_faces, few_members, ids_few, ids_rise, no_fault, forest_from, is_ready}
 use Rattle.region_tree.proofs.GivenBack.{regions_back, members_given_back}
 use Rattle.region_tree.proofs.building.build.Goals as goal
 use Rattle.region_tree.proofs.building.build.Goals.{In_ok-check_members}
@@ -34,6 +34,9 @@ check_members-requires-clause-few c =
 pub check_members-requires-clause-rising : goal.check_members-requires-clause-rising
 check_members-requires-clause-rising c =
     subst IsNonDecreasing (sym c.deref.ensures.value) (ids_rise c.args.regions.now c.args.members.now c.args.faces.now _ _ c.in_ok-hierarchy.ensures.regions)
+
+pub check_members-requires-clause-few_members : goal.check_members-requires-clause-few_members
+check_members-requires-clause-few_members c = let l = few_members c.args.regions.now c.args.members.now c.args.faces.now c.requires in omega (arith, l)
 
 pub check_members-requires-clause-few_faces : goal.check_members-requires-clause-few_faces
 check_members-requires-clause-few_faces c = few_faces c.args.regions.now c.args.members.now c.args.faces.now c.requires

@@ -1,6 +1,0 @@
-pub mod Following
-pub mod Lengths
-pub mod Names
-pub mod Sections
-pub mod Sizes
-pub mod Small
