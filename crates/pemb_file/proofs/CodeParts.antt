@@ -5,7 +5,7 @@ use Rattle.std.proofs.lemmas.Bool.{and_parts}
 use Rattle.code_laws.specs.Code.{Code, code_with}
 use Rattle.code_laws.specs.SeqFault.{seq_fault, is_sound}
 use Rattle.file_laws.specs.Layout.{HeaderCounts, section, sections, face_count, bits_at, fields_at}
-use Rattle.file_laws.specs.Contents.{contents_of}
+use Rattle.file_laws.specs.Held.{contents_of}
 use Rattle.file_laws.proofs.Lengths.{none-is_none}
 
 pub code-is : (words : List ℕ) (a b d : List Bool) (s : List ℕ) → a ≡ bits_at words 1 → b ≡ bits_at words 3 → d ≡ bits_at words 6 → s ≡ fields_at words 9 → code_with a b d s ≡ (contents_of words).code

@@ -1,5 +1,5 @@
 -- Sections that follow each other, each with its fields: where each stands, and that it is padded.
-use Rattle.std.proofs.Common.{◌≡◌, ℕ, ◌+◌, ◌*◌, ◌/◌, ◌%◌, ◌^◌, ◌<◌, List, [], ◌∷◌, ◌++◌, length, get_or, take, drop, refl, ap, sym, ◌∙◌, arith, map, true, inl, inr, None, length-append}
+use Rattle.std.proofs.Common.{◌≡◌, ℕ, ◌+◌, ◌*◌, ◌/◌, ◌%◌, ◌^◌, ◌<◌, List, [], ◌∷◌, ◌++◌, length, get_or, take, drop, refl, ap, sym, ◌∙◌, arith, map, true, lit<, inl, inr, None, length-append}
 use Rattle.std.specs.Prelude.{find, unwrap_or, ◌==◌, flat_map, slice_index}
 use Rattle.std.proofs.lemmas.Bool.{cases_Bool, lt-ltb}
 use Rattle.std.proofs.lemmas.Bool.Decides.{nat_tests}
@@ -18,6 +18,15 @@ no_filled = record { number = 0; width = 0; items = [] }
 -- the section of a number
 abbrev pub filled_of : ℕ → List Filled → Filled
 filled_of number fs = unwrap_or (find (λ f. f.number == number) fs) no_filled
+
+-- its numbers have its width
+pub filled-fit : (number : ℕ) (fs : List Filled) → AllFit fs → (k : ℕ) → slice_index (filled_of number fs).items k < 2 ^ (filled_of number fs).width
+filled-fit number [] fit k = lit< tt
+filled-fit number (f ∷ fs) fit k =
+    elim (cases_Bool (f.number == number)) [
+      | inl e ↦ rw e (fit.0 k)
+      | inr e ↦ rw e (filled-fit number fs fit.1 k)
+    ]
 
 pub length-filled : (f : Filled) → length (words_of_filled f) ≡ section_words (section_of f)
 unfolding section_words

@@ -1,17 +1,14 @@
 -- Bytes that grow by sections.
-use Rattle.std.specs.Prelude.{flat_map, slice_index, None, Result, Ok, Err, OnOk}
+use Rattle.std.specs.Prelude.{flat_map, slice_index, Result, Ok, Err, OnOk}
 use Rattle.std.proofs.Common.{◌≡◌, ℕ, ◌^◌, ◌<◌, ◌≤◌, Bool, List, [], ◌∷◌, ◌++◌, length, refl, ap, sym, ◌∙◌, subst, append_assoc}
 use Rattle.std.proofs.lemmas.List.{append-nil}
 use Rattle.bit_words.specs.Bits.{HoldsBits, fields_in}
 use Rattle.bit_words.specs.Packed.{PackedList, Packs}
-use Rattle.bit_words.proofs.Streams.{length-fields_in}
-use Rattle.id_names.specs.Names.{name_fault}
-use Rattle.file_laws.specs.Image.{Filled, words_of_filled, with_bits, with_fields, with_words, bytes_of, order_of}
+use Rattle.id_names.specs.Making.{HoldsFields}
+use Rattle.file_laws.specs.Image.{Filled, words_of_filled, with_bits, with_fields, with_width, with_words, bytes_of}
 use Rattle.pemb_file.specs.Written.{AllFit, Written}
 use Rattle.pemb_file.proofs.Packed.{packed_bits, packed_is, whole_packed, ones-below, fields-below}
 use Rattle.pemb_file.proofs.ImageBytes.{bytes_of-append}
-use Rattle.pemb_file.proofs.MadeCounts.{length-order}
-use Rattle.pemb_file.proofs.Order.{order_is, order_right}
 
 one : (old new : List ℕ) (f : Filled) (words : List ℕ) → new ≡ old ++ bytes_of words → words ≡ words_of_filled f → ((k : ℕ) → slice_index f.items k < 2 ^ f.width) → Written old new (f ∷ [])
 one old new f words e is small =
@@ -39,16 +36,17 @@ both old mid new fs gs a b =
 pub bits-written : (number : ℕ) (old new words : List ℕ) (bits : List Bool) → length bits ≤ 2147483647 → HoldsBits words bits → ((k : ℕ) → slice_index words k < 2 ^ 64) → new ≡ old ++ bytes_of words → Written old new (with_bits number bits ∷ [])
 bits-written number old new words bits few h small e = one old new (with_bits number bits) words e (packed_bits words bits few h small) (ones-below bits)
 
-pub fields-written : (number : ℕ) (old new words items : List ℕ) → Packs words (length items) 32 → fields_in words (length items) 32 ≡ items → ((k : ℕ) → slice_index words k < 2 ^ 64) → new ≡ old ++ bytes_of words → Written old new (with_fields number items ∷ [])
-fields-written number old new words items h f small e =
-    one old new (with_fields number items) words e (packed_is words 32 items h f small)
-    (λ k. subst (λ xs. slice_index xs k < 2 ^ 32) f (fields-below words (length items) 32 k))
+pub fields-written : (number width : ℕ) (old new words items : List ℕ) → Packs words (length items) width → fields_in words (length items) width ≡ items → ((k : ℕ) → slice_index words k < 2 ^ 64) → new ≡ old ++ bytes_of words
+    → Written old new (with_width number width items ∷ [])
+fields-written number width old new words items h f small e =
+    one old new (with_width number width items) words e (packed_is words width items h f small)
+    (λ k. subst (λ xs. slice_index xs k < 2 ^ width) f (fields-below words (length items) width k))
 
 -- the same, of what a maker holds
 pub maker-written : (number : ℕ) (old new words items : List ℕ) (m : PackedList) → m ≡ record { width = 32; items = items } → Packs words (length m.items) m.width → fields_in words (length m.items) m.width ≡ m.items
     → ((k : ℕ) → slice_index words k < 2 ^ 64) → new ≡ old ++ bytes_of words → Written old new (with_fields number items ∷ [])
 maker-written number old new words items m is h f small e =
-    fields-written number old new words items
+    fields-written number 32 old new words items
     (subst (λ (l : PackedList). Packs words (length l.items) l.width) is h)
     (subst (λ (l : PackedList). fields_in words (length l.items) l.width ≡ l.items) is f) small e
 
@@ -76,29 +74,10 @@ module _ (number : ℕ) (old new seen words : List ℕ) (is : seen ≡ words) (s
   fields-in items m same h f = maker-written number old new words items m same h f below grown
 
   pub held-in : (items : List ℕ) → Packs words (length items) 32 → fields_in words (length items) 32 ≡ items → Written old new (with_fields number items ∷ [])
-  held-in items h f = fields-written number old new words items h f below grown
+  held-in items h f = fields-written number 32 old new words items h f below grown
+
+  pub sized-in : (width : ℕ) (items : List ℕ) → HoldsFields words width items → Written old new (with_width number width items ∷ [])
+  sized-in width items h = fields-written number width old new words items h.packs h.fields below grown
 
   pub words-in : (nodes : List ℕ) → words ≡ nodes → Written old new (with_words number nodes ∷ [])
   words-in nodes same = words-written number old new words nodes same below grown
-
-  -- the order of names
-  module _ (ids : List ℕ) (h : Packs words (length ids) 32) (right : name_fault ids (fields_in words (length ids) 32) ≡ None) where
-    order : List ℕ
-    order = fields_in words (length ids) 32
-
-    long : length order ≡ length ids
-    unfolding order
-    long = length-fields_in words (length ids) 32
-
-    are_ordered : order ≡ order_of ids
-    unfolding order
-    are_ordered = order_is ids order long right
-
-    pub order-in : Written old new (with_fields number (order_of ids) ∷ [])
-    unfolding order
-    order-in =
-        let n = length-order ids in
-        held-in (order_of ids) (subst (λ k. Packs words k 32) (sym n) h) (ap (λ k. fields_in words k 32) n ∙ are_ordered)
-
-pub order_found : (ids order : List ℕ) (n : ℕ) → n ≡ length ids → length order ≡ n → name_fault ids order ≡ None → name_fault ids (order_of ids) ≡ None
-order_found ids order n e f h = order_right ids order (f ∙ e) h

@@ -1,6 +1,8 @@
 pub mod Bounds
 pub mod TreeWords
-pub mod SectionTable
+pub mod SectionWalk
+pub mod Forms
+pub mod NameParts
 pub mod CountFaults
 pub mod DigestFault
 pub mod FrontFaults
@@ -19,10 +21,11 @@ pub mod Cost
 pub mod Packed
 pub mod FilledSections
 pub mod ImageBytes
-pub mod Order
+pub mod NameSizes
 pub mod MadeCounts
 pub mod MadeImage
 pub mod Grown
 pub mod MadeCode
 pub mod MadeBytes
+pub mod NamesHeld
 pub mod WorkedParts

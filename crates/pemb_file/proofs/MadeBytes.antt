@@ -7,36 +7,31 @@ use Rattle.file_laws.specs.Layout.{HeaderCounts}
 use Rattle.file_laws.specs.Contents.{Contents}
 use Rattle.file_laws.specs.Faults.{magic}
 use Rattle.file_laws.specs.Image.{counts_of_contents, content_words, filled, words_of_filled, bytes_of, image_of}
-use Rattle.pemb_file.specs.Written.{Written}
+use Rattle.pemb_file.specs.Written.{Written, blank_header}
 use Rattle.pemb_file.proofs.ImageBytes.{length-bytes_of, bytes_of-append}
 
--- the header with 0 in place of the digest
-unfoldable pub start_words : HeaderCounts → List ℕ
-start_words h = magic ∷ 0 ∷ 0 ∷ 0 ∷ 0 ∷ 0 ∷ h.edges ∷ h.tree_edges ∷ h.components ∷ h.isolated ∷ h.regions ∷ []
-
-abbrev head : List ℕ
-head = magic ∷ 0 ∷ []
+abbrev head : ℕ → List ℕ
+head form = magic ∷ form ∷ []
 
 abbrev blank : List ℕ
 blank = 0 ∷ 0 ∷ 0 ∷ 0 ∷ []
 
-all_words : (c : Contents) → start_words (counts_of_contents c) ++ flat_map words_of_filled (filled c) ≡ head ++ (blank ++ content_words c)
-unfolding start_words
-all_words c = refl
+all_words : (form : ℕ) (c : Contents) → blank_header (counts_of_contents form c) ++ flat_map words_of_filled (filled form c) ≡ head form ++ (blank ++ content_words form c)
+all_words form c = refl
 
 seal_same : (t d head content : List ℕ) → t ≡ head → d ≡ content → t ++ sha256 d ++ d ≡ head ++ sha256 content ++ content
 seal_same t d head content e f = cc
 
-module _ (c : Contents) (h : HeaderCounts) (start grown : List ℕ) (counts : h ≡ counts_of_contents c) (begun : start ≡ bytes_of (start_words h)) (written : Written start grown (filled c)) where
-  grown_is : grown ≡ bytes_of head ++ (bytes_of blank ++ bytes_of (content_words c))
+module _ (form : ℕ) (c : Contents) (h : HeaderCounts) (start grown : List ℕ) (counts : h ≡ counts_of_contents form c) (begun : start ≡ bytes_of (blank_header h)) (written : Written start grown (filled form c)) where
+  grown_is : grown ≡ bytes_of (head form) ++ (bytes_of blank ++ bytes_of (content_words form c))
   grown_is =
-      let F = flat_map words_of_filled (filled c) in
-      written.bytes ∙ ap (λ s. s ++ bytes_of F) (begun ∙ ap (λ k. bytes_of (start_words k)) counts)
-      ∙ sym (bytes_of-append (start_words (counts_of_contents c)) F) ∙ ap bytes_of (all_words c)
-      ∙ bytes_of-append head (blank ++ content_words c) ∙ ap (λ bs. bytes_of head ++ bs) (bytes_of-append blank (content_words c))
+      let F = flat_map words_of_filled (filled form c) in
+      written.bytes ∙ ap (λ s. s ++ bytes_of F) (begun ∙ ap (λ k. bytes_of (blank_header k)) counts)
+      ∙ sym (bytes_of-append (blank_header (counts_of_contents form c)) F) ∙ ap bytes_of (all_words form c)
+      ∙ bytes_of-append (head form) (blank ++ content_words form c) ∙ ap (λ bs. bytes_of (head form) ++ bs) (bytes_of-append blank (content_words form c))
 
-  head_len : length (bytes_of head) ≡ 16
-  head_len = length-bytes_of head
+  head_len : length (bytes_of (head form)) ≡ 16
+  head_len = length-bytes_of (head form)
 
   blank_len : length (bytes_of blank) ≡ 32
   blank_len = length-bytes_of blank
@@ -44,24 +39,24 @@ module _ (c : Contents) (h : HeaderCounts) (start grown : List ℕ) (counts : h 
   pub long : 48 ≤ length grown
   long =
       let e = ap length grown_is in
-      let a = length-append (bytes_of head) (bytes_of blank ++ bytes_of (content_words c)) in
-      let b = length-append (bytes_of blank) (bytes_of (content_words c)) in
+      let a = length-append (bytes_of (head form)) (bytes_of blank ++ bytes_of (content_words form c)) in
+      let b = length-append (bytes_of blank) (bytes_of (content_words form c)) in
       let l = head_len in
       let m = blank_len in
       omega (arith, e, a, b, l, m)
 
-  front : take 16 grown ≡ bytes_of head
+  front : take 16 grown ≡ bytes_of (head form)
   front =
-      ap (take 16) grown_is ∙ ap (λ n. take n (bytes_of head ++ (bytes_of blank ++ bytes_of (content_words c)))) (sym head_len)
-      ∙ take-append_seam (bytes_of head) (bytes_of blank ++ bytes_of (content_words c))
+      ap (take 16) grown_is ∙ ap (λ n. take n (bytes_of (head form) ++ (bytes_of blank ++ bytes_of (content_words form c)))) (sym head_len)
+      ∙ take-append_seam (bytes_of (head form)) (bytes_of blank ++ bytes_of (content_words form c))
 
-  rest : drop 48 grown ≡ bytes_of (content_words c)
+  rest : drop 48 grown ≡ bytes_of (content_words form c)
   rest =
-      let l : 48 ≡ length (bytes_of head ++ bytes_of blank) = let e = length-append (bytes_of head) (bytes_of blank) in let a = head_len in let b = blank_len in omega (arith, e, a, b) in
-      ap (drop 48) (grown_is ∙ sym (append_assoc (bytes_of head) (bytes_of blank) (bytes_of (content_words c))))
-      ∙ ap (λ n. drop n ((bytes_of head ++ bytes_of blank) ++ bytes_of (content_words c))) l
-      ∙ drop-append_seam (bytes_of head ++ bytes_of blank) (bytes_of (content_words c))
+      let l : 48 ≡ length (bytes_of (head form) ++ bytes_of blank) = let e = length-append (bytes_of (head form)) (bytes_of blank) in let a = head_len in let b = blank_len in omega (arith, e, a, b) in
+      ap (drop 48) (grown_is ∙ sym (append_assoc (bytes_of (head form)) (bytes_of blank) (bytes_of (content_words form c))))
+      ∙ ap (λ n. drop n ((bytes_of (head form) ++ bytes_of blank) ++ bytes_of (content_words form c))) l
+      ∙ drop-append_seam (bytes_of (head form) ++ bytes_of blank) (bytes_of (content_words form c))
 
-  pub sealed_is : (sealed : List ℕ) → sealed ≡ take 16 grown ++ sha256 (drop 48 grown) ++ drop 48 grown → sealed ≡ image_of c
+  pub sealed_is : (sealed : List ℕ) → sealed ≡ take 16 grown ++ sha256 (drop 48 grown) ++ drop 48 grown → sealed ≡ image_of form c
   unfolding image_of
-  sealed_is sealed e = e ∙ seal_same (take 16 grown) (drop 48 grown) (bytes_of head) (bytes_of (content_words c)) front rest
+  sealed_is sealed e = e ∙ seal_same (take 16 grown) (drop 48 grown) (bytes_of (head form)) (bytes_of (content_words form c)) front rest

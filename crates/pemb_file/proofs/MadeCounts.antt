@@ -1,26 +1,30 @@
 -- The counts and the sections of contents that are written.
-use Rattle.std.specs.Prelude.{map}
-use Rattle.std.proofs.Common.{◌≡◌, ℕ, ◌+◌, ◌-◌, ◌*◌, ◌<◌, ◌≤◌, Bool, true, List, ◌∷◌, length, subst, refl, ap, sym, ◌∙◌, arith, IsTrue, None, ◌||◌, ◌==◌, inl, inr, ◌^◌}
-use Rattle.std.specs.Prelude.{nat_lt}
+use Rattle.std.specs.Prelude.{map, nat_lt, nat_le}
+use Rattle.std.proofs.Common.{◌≡◌, ℕ, ◌+◌, ◌-◌, ◌*◌, ◌<◌, ◌≤◌, Bool, true, List, [], ◌∷◌, ◌++◌, length, subst, refl, ap, sym, ◌∙◌, arith, IsTrue, None, ◌||◌, ◌==◌, inl, inr, ◌^◌, ◌&&◌}
 use Rattle.std.proofs.lemmas.Bool.{eqb-true, leb-true, and_parts, or_left, or_right, and_from, eq-eqb, lt-ltb, le-leb, cases_lt}
 use Rattle.std.proofs.lemmas.List.{length-map}
 use Rattle.rank_select.specs.Counts.{counts_of, blocks}
 use Rattle.rank_select.proofs.CountLaws.{length-counts_of}
+use Rattle.bit_words.specs.Digits.{digits}
 use Rattle.bit_words.proofs.Ranks.{rank_both}
 use Rattle.min_max_tree.specs.Tree.{nodes_of, tree_size}
-use Rattle.min_max_tree.proofs.Sizes.{nodes-length, tree-le}
+use Rattle.min_max_tree.proofs.Sizes.{nodes-length}
 use Rattle.code_laws.specs.Code.{Code, start_of}
 use Rattle.code_laws.specs.Numbers.{tree_edges}
 use Rattle.code_laws.proofs.Sound.{IsLaidOut, whole}
 use Rattle.code_laws.proofs.Edges.{closed}
-use Rattle.file_laws.specs.Layout.{HeaderCounts, Section, sections, section_words, bits, fields, whole_words, file_words, total_words}
+use Rattle.id_names.specs.Making.{place_width}
+use Rattle.file_laws.specs.Layout.{HeaderCounts, Section, sections, sized, bits, fields, whole_words, counted_bits, searched_bits, names, low_width, file_words, face_count, node_count}
 use Rattle.file_laws.specs.Contents.{Contents, component_count}
 use Rattle.file_laws.specs.Lawful.{is_whole, has_sizes, size_tests, whole_tests}
-use Rattle.file_laws.specs.Faults.{count_fault}
-use Rattle.file_laws.specs.Image.{counts_of_contents, filled, section_of, ones, order_of}
+use Rattle.file_laws.specs.Faults.{count_fault, unless}
+use Rattle.file_laws.specs.declared.fault.FileFault.{FileFault}
+use Rattle.file_laws.specs.Image.{counts_of_contents, filled, section_of, ones, with_counts, with_tree, with_names, with_fields, with_bits, code_sections, names_for}
 use Rattle.file_laws.proofs.Agreement.{test_at, whole_seen}
-use Rattle.file_laws.proofs.Lists.{length-rising}
-use Rattle.pemb_file.proofs.CountFaults.{no_count, fit}
+use Rattle.file_laws.proofs.Largest.{whole_counts_fit, whole_small}
+use Rattle.pemb_file.specs.Written.{AreNamed}
+use Rattle.pemb_file.proofs.CountFaults.{at-14}
+use Rattle.pemb_file.proofs.NameSizes.{have_sizes}
 
 -- how many of each there are
 pub record Many (c : Contents) : Type 0 where
@@ -90,8 +94,18 @@ many c w =
       few_regions = leb-true _ _ (test_at (size_tests c) 11 h);
     }
 
+-- the names of each class
+pub record AllNamed (form : ℕ) (c : Contents) : Type 0 where
+  pub nodes : AreNamed form c.nodes
+  pub edges : AreNamed form c.edges
+  pub faces : AreNamed form c.faces
+  pub regions : AreNamed form c.regions
+
+pub fine : (b : Bool) (e : FileFault) → b ≡ true → unless b e ≡ None
+fine b e h = rw h refl
+
 -- these counts have no fault
-counts_pass : (c : Contents) → Many c → fit (counts_of_contents c) ≡ true
+counts_pass : (c : Contents) → Many c → (nat_le (component_count c) (length c.edges) && ((length c.edges == 0) || nat_lt 0 (component_count c))) ≡ true
 counts_pass c m =
     let few = m.few_components in
     let none_or_some : (length c.edges == 0) || nat_lt 0 (component_count c) ≡ true =
@@ -101,11 +115,11 @@ counts_pass c m =
     ] in
     and_from _ _ (le-leb _ _ few) none_or_some
 
-pub no_count_fault : (c : Contents) → Many c → count_fault (counts_of_contents c) ≡ None
-no_count_fault c m =
-    let nodes = m.nodes in
-    let few = m.few_nodes in
-    no_count (counts_of_contents c) m.few_edges m.few_tree (counts_pass c m) (omega (arith, nodes, few)) m.few_regions
+pub no_count_fault : (form : ℕ) (c : Contents) → IsTrue (is_whole c) → count_fault (counts_of_contents form c) ≡ None
+no_count_fault form c w =
+    let k = whole_counts_fit form c w in
+    at-14 (counts_of_contents form c) None (fine _ _ (le-leb _ _ k.edges)) (fine _ _ (le-leb _ _ k.tree)) (fine _ _ (counts_pass c (many c w))) (fine _ _ (le-leb _ _ k.nodes))
+    (fine _ _ (le-leb _ _ k.regions)) (fine _ _ (le-leb _ _ k.node_back)) (fine _ _ (le-leb _ _ k.edge_back)) (fine _ _ (le-leb _ _ k.face_back)) (fine _ _ (le-leb _ _ k.region_back))
 
 length-ones : (bits : List Bool) (n : ℕ) → length bits ≡ n → n ≡ length (ones bits)
 length-ones bits n e = rw length-map (sym e)
@@ -116,78 +130,96 @@ length-counts bits n e = ap (λ k. blocks k + 1) (sym e) ∙ sym (length-counts_
 length-nodes : (bits : List Bool) (n : ℕ) → length bits ≡ n → tree_size n ≡ length (nodes_of bits)
 length-nodes bits n e = ap tree_size (sym e) ∙ sym (nodes-length bits)
 
-pub length-order : (ids : List ℕ) → length (order_of ids) ≡ length ids
-length-order ids = rw length-map (length-rising ids)
-
-length-order' : (ids : List ℕ) (n : ℕ) → length ids ≡ n → n ≡ length (order_of ids)
-length-order' ids n e = sym e ∙ sym (length-order ids)
-
 -- equal sections, one by one
 more_sections : (s t : Section) (ss ts : List Section) → s ≡ t → ss ≡ ts → ◌≡◌ {A = List Section} (s ∷ ss) (t ∷ ts)
 more_sections s t ss ts e f = cc
 
-same_bits : (number n m : ℕ) → n ≡ m → bits number n ≡ bits number m
-same_bits number n m e = ap (bits number) e
+both_lists : (xs xs' ys ys' : List Section) → xs ≡ xs' → ys ≡ ys' → xs ++ ys ≡ xs' ++ ys'
+both_lists xs xs' ys ys' e f = cc
+
+counted_filled : (number n : ℕ) (bits : List Bool) → length bits ≡ n → counted_bits number n ≡ map section_of (with_counts number bits)
+counted_filled number n bits' e = more_sections _ _ _ _ (ap (bits number) (length-ones _ _ e)) (more_sections _ _ _ _ (ap (fields (number + 1)) (length-counts _ _ e)) refl)
+
+searched_filled : (number n : ℕ) (bits : List Bool) → length bits ≡ n → searched_bits number n ≡ map section_of (with_tree number bits)
+searched_filled number n bits' e =
+    more_sections _ _ _ _ (ap (bits number) (length-ones _ _ e))
+    (more_sections _ _ _ _ (ap (fields (number + 1)) (length-counts _ _ e)) (more_sections _ _ _ _ (ap (whole_words (number + 2)) (length-nodes _ _ e)) refl))
+
+abbrev back_of : ℕ → List ℕ → ℕ
+back_of form ids = length (names_for form ids).back
+
+-- the sections of names
+names_filled : (form number : ℕ) (ids : List ℕ) (h : AreNamed form ids) → names form number (length ids) (back_of form ids) ≡ map section_of (with_names form number ids)
+names_filled form number ids h =
+    let n = length ids in
+    let s = have_sizes form ids h in
+    both_lists _ _ _ _ (counted_filled (number + 1) (n + 2 ^ digits n) (names_for form ids).high s.high)
+    (more_sections _ _ _ _ (ap (λ k. sized (number + 3) k (low_width form n)) (sym s.lows))
+    (more_sections _ _ _ _ (ap (λ k. sized (number + 4) k (place_width n)) (sym s.places))
+    (both_lists _ _ _ _ (counted_filled (number + 5) n (names_for form ids).marks s.marks) refl)))
+
+class_filled : (form number n : ℕ) (ids : List ℕ) → AreNamed form ids → length ids ≡ n → names form number n (back_of form ids) ≡ map section_of (with_names form number ids)
+class_filled form number n ids h e = ap (λ k. names form number k (back_of form ids)) (sym e) ∙ names_filled form number ids h
+
+-- the sections before names, between them and behind them
+abbrev front : HeaderCounts → List Section
+front c =
+    counted_bits 1 (2 * c.edges) ++ searched_bits 3 (2 * c.tree_edges) ++ searched_bits 6 (2 * face_count c)
+    ++ fields 9 (c.components + 1) ∷ bits 10 c.edges ∷ []
+
+abbrev middle : HeaderCounts → List Section
+middle c = fields 17 c.components ∷ fields 18 c.components ∷ fields 19 c.isolated ∷ searched_bits 20 (2 * c.regions)
+
+abbrev node_names : HeaderCounts → List Section
+node_names c = names c.form 30 (node_count c) c.node_back
+
+abbrev edge_names : HeaderCounts → List Section
+edge_names c = names c.form 40 c.edges c.edge_back
+
+abbrev face_names : HeaderCounts → List Section
+face_names c = names c.form 50 (face_count c) c.face_back
+
+abbrev region_names : HeaderCounts → List Section
+region_names c = names c.form 60 c.regions c.region_back
+
+abbrev end : HeaderCounts → List Section
+end c = fields 25 (face_count c + 1) ∷ []
+
+by_names : (c : HeaderCounts) → sections c ≡ front c ++ (node_names c ++ (edge_names c ++ (face_names c ++ (middle c ++ (region_names c ++ end c)))))
+unfolding sections
+by_names c = refl
+
+front_filled : (form : ℕ) (c : Contents) → Many c → front (counts_of_contents form c) ≡ map section_of (code_sections c.code ++ with_bits 10 c.forward ∷ [])
+front_filled form c m =
+    both_lists _ _ _ _ (counted_filled 1 _ c.code.a m.positions)
+    (both_lists _ _ _ _ (searched_filled 3 _ c.code.tree m.tree)
+    (both_lists _ _ _ _ (searched_filled 6 _ c.code.dual m.dual)
+    (more_sections _ _ _ _ (ap (fields 9) (sym m.starts)) (more_sections _ _ _ _ (ap (bits 10) (length-ones _ _ m.forward)) refl))))
+
+middle_filled : (form : ℕ) (c : Contents) → Many c → middle (counts_of_contents form c) ≡ map section_of (with_fields 17 c.places ∷ with_fields 18 c.place_order ∷ with_fields 19 c.isolated ∷ with_tree 20 c.region_bits)
+middle_filled form c m =
+    more_sections _ _ _ _ refl (more_sections _ _ _ _ (ap (fields 18) (sym m.orders)) (more_sections _ _ _ _ refl (searched_filled 20 _ c.region_bits m.region_bits)))
 
 -- the sections that the counts give are those that are filled
-pub sections_filled : (c : Contents) → Many c → sections (counts_of_contents c) ≡ map section_of (filled c)
-unfolding sections filled
-sections_filled c m =
-    more_sections _ _ _ _ (ap (bits 1) (length-ones _ _ m.positions))
-    (more_sections _ _ _ _ (ap (fields 2) (length-counts _ _ m.positions))
-    (more_sections _ _ _ _ (ap (bits 3) (length-ones _ _ m.tree))
-    (more_sections _ _ _ _ (ap (fields 4) (length-counts _ _ m.tree))
-    (more_sections _ _ _ _ (ap (whole_words 5) (length-nodes _ _ m.tree))
-    (more_sections _ _ _ _ (ap (bits 6) (length-ones _ _ m.dual))
-    (more_sections _ _ _ _ (ap (fields 7) (length-counts _ _ m.dual))
-    (more_sections _ _ _ _ (ap (whole_words 8) (length-nodes _ _ m.dual))
-    (more_sections _ _ _ _ (ap (fields 9) (sym m.starts))
-    (more_sections _ _ _ _ (ap (bits 10) (length-ones _ _ m.forward))
-    (more_sections _ _ _ _ (ap (fields 11) (sym m.nodes))
-    (more_sections _ _ _ _ (ap (fields 12) (length-order' _ _ m.nodes))
-    (more_sections _ _ _ _ refl
-    (more_sections _ _ _ _ (ap (fields 14) (length-order' _ _ refl))
-    (more_sections _ _ _ _ (ap (fields 15) (sym m.faces))
-    (more_sections _ _ _ _ (ap (fields 16) (length-order' _ _ m.faces))
-    (more_sections _ _ _ _ refl
-    (more_sections _ _ _ _ (ap (fields 18) (sym m.orders))
-    (more_sections _ _ _ _ refl
-    (more_sections _ _ _ _ (ap (bits 20) (length-ones _ _ m.region_bits))
-    (more_sections _ _ _ _ (ap (fields 21) (length-counts _ _ m.region_bits))
-    (more_sections _ _ _ _ (ap (whole_words 22) (length-nodes _ _ m.region_bits))
-    (more_sections _ _ _ _ refl
-    (more_sections _ _ _ _ (ap (fields 24) (length-order' _ _ refl))
-    (more_sections _ _ _ _ (ap (fields 25) (sym m.members)) refl))))))))))))))))))))))))
+pub sections_filled : (form : ℕ) (c : Contents) → Many c → AllNamed form c → sections (counts_of_contents form c) ≡ map section_of (filled form c)
+unfolding filled
+sections_filled form c m n =
+    by_names (counts_of_contents form c)
+    ∙ both_lists _ _ _ _ (front_filled form c m)
+    (both_lists _ _ _ _ (class_filled form 30 _ c.nodes n.nodes m.nodes)
+    (both_lists _ _ _ _ (class_filled form 40 _ c.edges n.edges refl)
+    (both_lists _ _ _ _ (class_filled form 50 _ c.faces n.faces m.faces)
+    (both_lists _ _ _ _ (middle_filled form c m)
+    (both_lists _ _ _ _ (class_filled form 60 _ c.regions n.regions refl) (more_sections _ _ _ _ (ap (fields 25) (sym m.members)) refl))))))
 
--- the file is small
-pub few_words : (c : Contents) → Many c → 8 * file_words (counts_of_contents c) < 2 ^ 32
-unfolding file_words total_words sections section_words
-few_words c m =
-    let t = tree-le (2 * tree_edges c.code) in
-    let d = tree-le (2 * (length c.edges - tree_edges c.code)) in
-    let r = tree-le (2 * length c.regions) in
-    let nodes = m.nodes in
-    let few_nodes = m.few_nodes in
-    let few_edges = m.few_edges in
-    let few_tree = m.few_tree in
-    let few_regions = m.few_regions in
-    let few_components = m.few_components in
-    omega (arith, t, d, r, nodes, few_nodes, few_edges, few_tree, few_regions, few_components)
+-- the counts of parts are equal where each count is
+pub same_counts : (f f' e e' t t' k k' i i' r r' x x' y y' z z' w w' : ℕ) → f ≡ f' → e ≡ e' → t ≡ t' → k ≡ k' → i ≡ i' → r ≡ r' → x ≡ x' → y ≡ y' → z ≡ z' → w ≡ w'
+    → ◌≡◌ {A = HeaderCounts} (record { form = f; edges = e; tree_edges = t; components = k; isolated = i; regions = r; node_back = x; edge_back = y; face_back = z; region_back = w })
+    (record { form = f'; edges = e'; tree_edges = t'; components = k'; isolated = i'; regions = r'; node_back = x'; edge_back = y'; face_back = z'; region_back = w' })
+same_counts f f' e e' t t' k k' i i' r r' x x' y y' z z' w w' a0 a1 a2 a3 a4 a5 a6 a7 a8 a9 = cc
 
-same_counts : (e e' t t' k k' i i' r r' : ℕ) → e ≡ e' → t ≡ t' → k ≡ k' → i ≡ i' → r ≡ r'
-    → ◌≡◌ {A = HeaderCounts} (record { edges = e; tree_edges = t; components = k; isolated = i; regions = r }) (record { edges = e'; tree_edges = t'; components = k'; isolated = i'; regions = r' })
-same_counts e e' t t' k k' i i' r r' a b d f g = cc
-
--- the counts as they are taken from parts
-pub counts_from : (c : Contents) → Many c → (e f k i r : ℕ) → e ≡ length c.edges → f ≡ length c.faces → k ≡ component_count c → i ≡ length c.isolated → r ≡ length c.regions
-    → ◌≡◌ {A = HeaderCounts} (record { edges = e; tree_edges = e - f; components = k; isolated = i; regions = r }) (counts_of_contents c)
-counts_from c m e f k i r is-e is-f is-k is-i is-r =
-    let faces = m.faces in
-    let few = m.few_tree in
-    same_counts _ _ _ _ _ _ _ _ _ _ is-e (omega (arith, is-e, is-f, faces, few)) is-k is-i is-r
-
-pub few_from : (c : Contents) → Many c → (h : HeaderCounts) → h ≡ counts_of_contents c → 8 * file_words h < 2 ^ 32
-few_from c m h e = subst (λ k. 8 * file_words k < 2 ^ 32) (sym e) (few_words c m)
+pub few_from : (form : ℕ) (c : Contents) → IsTrue (is_whole c) → (h : HeaderCounts) → h ≡ counts_of_contents form c → 8 * file_words h < 2 ^ 32
+few_from form c w h e = let few = whole_small form c w in subst (λ k. 8 * file_words k < 2 ^ 32) (sym e) (omega (arith, few))
 
 pub few_seen : {X : Type 0} (seen items : List X) (n : ℕ) → seen ≡ items → length items ≤ n → length seen ≤ n
 few_seen {X = X} seen items n e h = subst (λ (xs : List X). length xs ≤ n) (sym e) h

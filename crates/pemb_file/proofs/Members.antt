@@ -1,13 +1,13 @@
 -- The first face in a region that there isn't.
 use Rattle.std.specs.Prelude.{not, nat_le, slice_index}
-use Rattle.std.proofs.Common.{◌≡◌, ℕ, ◌<◌, ◌≤◌, true, false, List, length, ap, ◌∙◌, arith, Some, None}
+use Rattle.std.proofs.Common.{◌≡◌, ℕ, ◌<◌, ◌≤◌, true, false, List, length, ap, arith, Some, None}
 use Rattle.std.proofs.lemmas.Bool.Decides.{nat_tests}
 use Rattle.bit_words.proofs.Finds.{find-least, find-none}
 use Rattle.file_laws.specs.Layout.{counts_in, fields_at}
-use Rattle.file_laws.specs.Contents.{Contents, contents_of}
+use Rattle.file_laws.specs.Contents.{Contents}
+use Rattle.file_laws.specs.Held.{contents_of}
 use Rattle.file_laws.specs.Faults.{member_fault}
-use Rattle.file_laws.proofs.Sections.{length-fields}
-use Rattle.pemb_file.proofs.SectionTable.{counted}
+use Rattle.file_laws.proofs.Sections.{sections_have}
 
 not-above : (x y : ℕ) → x ≤ y → not (nat_le x y) ≡ false
 not-above x y h = grind (arith, nat_tests)
@@ -32,7 +32,7 @@ pub wrong-member : (words members : List ℕ) (regions at : ℕ) → members ≡
     → member_fault (contents_of words) ≡ Some at
 unfolding contents_of
 wrong-member words members regions at e f l fine other =
-    let n = length-fields words 23 ∙ (counted (counts_in words)).n23 in
+    let n = (sections_have words).regions in
     let ms = ap (λ (xs : List ℕ). length xs) e in
     member-at (contents_of words) at (omega (arith, ms, l)) (λ k q. let here = fine k q in let same = ap (λ xs. slice_index xs k) e in omega (arith, here, same, n, f))
     (let same = ap (λ xs. slice_index xs at) e in omega (arith, same, n, f, other))
@@ -40,6 +40,6 @@ wrong-member words members regions at e f l fine other =
 pub right-members : (words members : List ℕ) (regions : ℕ) → members ≡ fields_at words 25 → regions ≡ (counts_in words).regions → FineBelow members regions (length members) → member_fault (contents_of words) ≡ None
 unfolding contents_of
 right-members words members regions e f fine =
-    let n = length-fields words 23 ∙ (counted (counts_in words)).n23 in
+    let n = (sections_have words).regions in
     let ms = ap (λ (xs : List ℕ). length xs) e in
     members-fine (contents_of words) (λ k q. let here = fine k (omega (arith, ms, q)) in let same = ap (λ xs. slice_index xs k) e in omega (arith, here, same, n, f))

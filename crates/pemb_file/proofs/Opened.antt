@@ -6,8 +6,9 @@ use Rattle.parens.specs.Matching.{balance_fault}
 use Rattle.code_laws.specs.Code.{Code}
 use Rattle.code_laws.specs.SeqFault.{first_some, seq_fault}
 use Rattle.file_laws.specs.Layout.{counts_in, words_of, bits_at, fields_at}
-use Rattle.file_laws.specs.Contents.{contents_of, contents_with}
-use Rattle.file_laws.specs.Faults.{front_fault, digest_fault, count_fault, directories_fault, names_fault, all_names_fault, places_fault, start_fault, regions_fault, padding_fault}
+use Rattle.file_laws.specs.Contents.{contents_with}
+use Rattle.file_laws.specs.Held.{ids_at, contents_of}
+use Rattle.file_laws.specs.Faults.{front_fault, digest_fault, count_fault, directories_fault, names_fault, told_in, all_names_fault, places_fault, start_fault, regions_fault, padding_fault}
 use Rattle.file_laws.specs.Lawful.{first_fault, content_fault, is_whole}
 use Rattle.file_laws.specs.declared.fault.FileFault.{FileFault}
 use Rattle.file_laws.specs.declared.fault.FileFault.TheVariants as fault
@@ -18,30 +19,30 @@ use Rattle.pemb_file.proofs.FrontFaults.{begun_fault, first-some, first-none, fi
 
 -- the names of each class
 pub record NamesFit (words : List ℕ) : Type 0 where
-  pub nodes : names_fault words 11 ≡ None
-  pub edges : names_fault words 13 ≡ None
-  pub faces : names_fault words 15 ≡ None
+  pub nodes : names_fault words 30 ≡ None
+  pub edges : names_fault words 40 ≡ None
+  pub faces : names_fault words 50 ≡ None
 
 pub names_fit : (words : List ℕ) → all_names_fault words ≡ None → NamesFit words
 unfolding all_names_fault
 names_fit words h =
-    let n11 = first_none (option_map (fault.Name 11) (names_fault words 11)) _ h in
-    let n13 = first_none (option_map (fault.Name 13) (names_fault words 13)) _ n11.1 in
-    let n15 = first_none (option_map (fault.Name 15) (names_fault words 15)) _ n13.1 in
-    record { nodes = option_none (fault.Name 11) _ n11.0; edges = option_none (fault.Name 13) _ n13.0; faces = option_none (fault.Name 15) _ n15.0 }
+    let n11 = first_none (option_map (told_in fault.Name 30) (names_fault words 30)) _ h in
+    let n13 = first_none (option_map (told_in fault.Name 40) (names_fault words 40)) _ n11.1 in
+    let n15 = first_none (option_map (told_in fault.Name 50) (names_fault words 50)) _ n13.1 in
+    record { nodes = option_none (told_in fault.Name 30) _ n11.0; edges = option_none (told_in fault.Name 40) _ n13.0; faces = option_none (told_in fault.Name 50) _ n15.0 }
 
-pub region_names : (words : List ℕ) → regions_fault words (contents_of words) ≡ None → names_fault words 23 ≡ None
+pub region_names : (words : List ℕ) → regions_fault words (contents_of words) ≡ None → names_fault words 60 ≡ None
 unfolding regions_fault contents_of
 region_names words h =
     let r20 = first_none (option_map (fault.RegionPart 20) (balance_fault (bits_at words 20) 0 (length (bits_at words 20)))) _ h in
     let r21 = first_none _ _ r20.1 in
     let r22 = first_none _ _ r21.1 in
-    let r23 = first_none (option_map (fault.RegionPart 23) (names_fault words 23)) _ r22.1 in
-    option_none (fault.RegionPart 23) _ r23.0
+    let r23 = first_none (option_map (told_in fault.RegionPart 60) (names_fault words 60)) _ r22.1 in
+    option_none (told_in fault.RegionPart 60) _ r23.0
 
 -- the contents, part by part
 pub contents-is : (words : List ℕ) (code : Code) (forward region_bits : List Bool) (nodes edges faces regions places place_order isolated members : List ℕ)
-    → code ≡ (contents_of words).code → forward ≡ bits_at words 10 → nodes ≡ fields_at words 11 → edges ≡ fields_at words 13 → faces ≡ fields_at words 15 → regions ≡ fields_at words 23
+    → code ≡ (contents_of words).code → forward ≡ bits_at words 10 → nodes ≡ ids_at words 30 → edges ≡ ids_at words 40 → faces ≡ ids_at words 50 → regions ≡ ids_at words 60
     → places ≡ fields_at words 17 → place_order ≡ fields_at words 18 → isolated ≡ fields_at words 19 → region_bits ≡ bits_at words 20 → members ≡ fields_at words 25
     → contents_with code forward nodes edges faces regions places place_order isolated region_bits members ≡ contents_of words
 unfolding contents_of

@@ -18,7 +18,7 @@ use Rattle.code_laws.specs.SeqFault.{is_sound}
 use Rattle.code_laws.proofs.Sound.{sound_parts, whole}
 use Rattle.region_tree.proofs.Stacks.{balanced_all}
 use Rattle.file_laws.specs.Layout.{counts_in, section, section_from, section_words, file_words, bits_at, fields_at, part}
-use Rattle.file_laws.specs.Contents.{contents_of}
+use Rattle.file_laws.specs.Held.{contents_of}
 use Rattle.pemb_file.specs.Kinds.{is_directory, is_tree}
 use Rattle.pemb_file.specs.Parens.{HasParens}
 use Rattle.file_laws.specs.Faults.{directories_fault, regions_fault}

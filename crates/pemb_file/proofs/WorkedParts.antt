@@ -1,44 +1,43 @@
 -- What the worked files hold, as parts.
-use Rattle.std.proofs.Common.{◌≡◌, [], ◌∷◌, true, false, refl, IsTrue}
+use Rattle.std.proofs.Common.{[], ◌∷◌, true, false, refl, IsTrue}
 use Rattle.bit_words.specs.Lists.{tabulate}
-use Rattle.bit_words.specs.Words.{words_in}
-use Rattle.bit_words.specs.WrongEntry.{first_wrong}
-use Rattle.bit_words.specs.Bits.{rank, select, excess, is_set, word_bits, bit_of, bits_in, stream, field_at, fields_in}
-use Rattle.rank_select.specs.Counts.{counts_of}
-use Rattle.min_max_tree.specs.Tree.{span_at, size_at, start_at, least, total_of, least_of, node, levels, nodes_of, sizes_from, tree_size}
+use Rattle.bit_words.specs.Bits.{rank, select, excess}
 use Rattle.parens.specs.Matching.{close_of, open_of, mate_of, pair_number, falling, innermost, balance_fault}
 use Rattle.code_laws.specs.Code.{is_first, mate, component_of, after, before}
 use Rattle.code_laws.specs.Numbers.{edge_of, node_of, ring_of, pair_round, first_of_edge, first_of_node, first_of_shell}
 use Rattle.code_laws.specs.SeqFault.{seq_fault, first_some}
-use Rattle.id_names.specs.Names.{number_of, name_fault, is_names}
-use Rattle.sha2.specs.Sha256.{sha256, first_words, schedule, rounds, compress, hash_after, digest_bytes}
-use Rattle.orbits.specs.Walks as walks
-use Rattle.orbits.specs.Components as sets
-use Rattle.plane_model.specs.Sets.{put, rising}
-use Rattle.plane_model.specs.PlaneMap.{signed_edges, smallest}
-use Rattle.plane_model.specs.Faces.{reached_through}
-use Rattle.plane_model.specs.Regions.{upward}
-use Rattle.file_laws.specs.Layout.{words_of, sections, section_words, total_words, file_words, words_before, section, section_from, part, bits_at, fields_at}
-use Rattle.file_laws.specs.Contents.{contents_of, contents_with}
-use Rattle.region_tree.specs.Nesting.{parent_number}
-use Rattle.file_laws.specs.MapOfFile.{signed_at, node_at, face_at, forward_position}
-use Rattle.file_laws.specs.Faults.{front_fault, count_fault, digest_fault, directories_fault, all_names_fault, place_fault, order_fault, isolated_fault, places_fault, start_fault, member_fault, regions_fault, padding_from, padding_fault}
-use Rattle.file_laws.specs.Lawful.{content_fault, map_of_file, first_fault, is_whole, has_sizes}
 use Rattle.code_laws.specs.Tour.{picked, code_of}
-use Rattle.file_laws.specs.Worked.{tri_contents, plain_contents}
+use Rattle.id_names.specs.Names.{number_of, is_names}
+use Rattle.file_laws.specs.Contents.{Contents, contents_with}
+use Rattle.file_laws.specs.MapOfFile.{signed_at}
+use Rattle.file_laws.specs.Faults.{place_fault, order_fault, isolated_fault, places_fault, start_fault, member_fault}
+use Rattle.file_laws.specs.Lawful.{is_whole, has_sizes, has_room_for}
 
-pub tri_made : contents_with (code_of (true ∷ true ∷ false ∷ true ∷ true ∷ false ∷ []) (true ∷ true ∷ true ∷ false ∷ false ∷ false ∷ []) (0 ∷ 6 ∷ [])) (false ∷ false ∷ false ∷ []) (2 ∷ 1 ∷ 3 ∷ []) (1 ∷ 3 ∷ 2 ∷ []) (1 ∷ []) [] (0 ∷ []) (0 ∷ []) ([]) [] (0 ∷ 0 ∷ []) ≡ tri_contents
-unfolding picked rank select excess tabulate is_set word_bits bit_of bits_in stream field_at fields_in words_in first_wrong counts_of span_at size_at start_at least total_of least_of node levels nodes_of sizes_from tree_size close_of open_of mate_of pair_number falling innermost balance_fault is_first mate component_of after before edge_of pair_round node_of ring_of first_of_edge first_of_node first_of_shell first_some seq_fault number_of name_fault is_names is_whole has_sizes put rising words_of sections section_words total_words file_words words_before section section_from part bits_at fields_at contents_of signed_at node_at face_at forward_position parent_number front_fault count_fault directories_fault all_names_fault place_fault order_fault isolated_fault places_fault start_fault member_fault regions_fault padding_from padding_fault content_fault map_of_file first_fault digest_fault first_words schedule rounds compress hash_after digest_bytes sha256 signed_edges walks.until_return sets.grown_by reached_through upward smallest
-tri_made = refl
+-- a triangle
+abbrev pub triangle : Contents
+triangle =
+    contents_with (code_of (true ∷ true ∷ false ∷ true ∷ true ∷ false ∷ []) (true ∷ true ∷ true ∷ false ∷ false ∷ false ∷ []) (0 ∷ 6 ∷ []))
+    (false ∷ false ∷ false ∷ []) (2 ∷ 1 ∷ 3 ∷ []) (1 ∷ 3 ∷ 2 ∷ []) (1 ∷ []) [] (0 ∷ []) (0 ∷ []) [] [] (0 ∷ 0 ∷ [])
 
-pub tri_whole : IsTrue (is_whole tri_contents)
-unfolding rank select excess tabulate is_set word_bits bit_of bits_in stream field_at fields_in words_in first_wrong counts_of span_at size_at start_at least total_of least_of node levels nodes_of sizes_from tree_size close_of open_of mate_of pair_number falling innermost balance_fault is_first mate component_of after before edge_of pair_round node_of ring_of first_of_edge first_of_node first_of_shell first_some seq_fault number_of name_fault is_names is_whole has_sizes put rising words_of sections section_words total_words file_words words_before section section_from part bits_at fields_at contents_of signed_at node_at face_at forward_position parent_number front_fault count_fault directories_fault all_names_fault place_fault order_fault isolated_fault places_fault start_fault member_fault regions_fault padding_from padding_fault content_fault map_of_file first_fault digest_fault first_words schedule rounds compress hash_after digest_bytes sha256 signed_edges walks.until_return sets.grown_by reached_through upward smallest
-tri_whole = refl
+-- the same with a closed edge and a node inside it, and two regions
+abbrev pub island : Contents
+island =
+    contents_with (code_of (true ∷ true ∷ false ∷ true ∷ true ∷ false ∷ false ∷ false ∷ []) (true ∷ true ∷ true ∷ false ∷ false ∷ false ∷ true ∷ false ∷ []) (0 ∷ 6 ∷ 8 ∷ []))
+    (false ∷ false ∷ false ∷ false ∷ []) (2 ∷ 4 ∷ 1 ∷ 3 ∷ 5 ∷ []) (1 ∷ 3 ∷ 2 ∷ 4 ∷ []) (1 ∷ 2 ∷ []) (1 ∷ 2 ∷ []) (0 ∷ 1 ∷ []) (0 ∷ 1 ∷ []) (2 ∷ [])
+    (true ∷ true ∷ false ∷ false ∷ []) (0 ∷ 2 ∷ 1 ∷ [])
 
-pub plain_made : contents_with (code_of (true ∷ true ∷ false ∷ true ∷ true ∷ false ∷ false ∷ false ∷ []) (true ∷ true ∷ true ∷ false ∷ false ∷ false ∷ true ∷ false ∷ []) (0 ∷ 6 ∷ 8 ∷ [])) (false ∷ false ∷ false ∷ false ∷ []) (2 ∷ 4 ∷ 1 ∷ 3 ∷ 5 ∷ []) (1 ∷ 3 ∷ 2 ∷ 4 ∷ []) (1 ∷ 2 ∷ []) [] (0 ∷ 1 ∷ []) (0 ∷ 1 ∷ []) (2 ∷ []) [] (0 ∷ 0 ∷ 0 ∷ []) ≡ plain_contents
-unfolding picked rank select excess tabulate is_set word_bits bit_of bits_in stream field_at fields_in words_in first_wrong counts_of span_at size_at start_at least total_of least_of node levels nodes_of sizes_from tree_size close_of open_of mate_of pair_number falling innermost balance_fault is_first mate component_of after before edge_of pair_round node_of ring_of first_of_edge first_of_node first_of_shell first_some seq_fault number_of name_fault is_names is_whole has_sizes put rising words_of sections section_words total_words file_words words_before section section_from part bits_at fields_at contents_of signed_at node_at face_at forward_position parent_number front_fault count_fault directories_fault all_names_fault place_fault order_fault isolated_fault places_fault start_fault member_fault regions_fault padding_from padding_fault content_fault map_of_file first_fault digest_fault first_words schedule rounds compress hash_after digest_bytes sha256 signed_edges walks.until_return sets.grown_by reached_through upward smallest
-plain_made = refl
+pub triangle_whole : IsTrue (is_whole triangle)
+unfolding picked rank select excess tabulate close_of open_of mate_of pair_number falling innermost balance_fault is_first mate component_of after before edge_of pair_round node_of ring_of first_of_edge first_of_node first_of_shell first_some seq_fault number_of is_names is_whole has_sizes signed_at place_fault order_fault isolated_fault places_fault start_fault member_fault
+triangle_whole = refl
 
-pub plain_whole : IsTrue (is_whole plain_contents)
-unfolding rank select excess tabulate is_set word_bits bit_of bits_in stream field_at fields_in words_in first_wrong counts_of span_at size_at start_at least total_of least_of node levels nodes_of sizes_from tree_size close_of open_of mate_of pair_number falling innermost balance_fault is_first mate component_of after before edge_of pair_round node_of ring_of first_of_edge first_of_node first_of_shell first_some seq_fault number_of name_fault is_names is_whole has_sizes put rising words_of sections section_words total_words file_words words_before section section_from part bits_at fields_at contents_of signed_at node_at face_at forward_position parent_number front_fault count_fault directories_fault all_names_fault place_fault order_fault isolated_fault places_fault start_fault member_fault regions_fault padding_from padding_fault content_fault map_of_file first_fault digest_fault first_words schedule rounds compress hash_after digest_bytes sha256 signed_edges walks.until_return sets.grown_by reached_through upward smallest
-plain_whole = refl
+pub triangle_room : IsTrue (has_room_for 1 triangle)
+unfolding has_room_for
+triangle_room = refl
+
+pub island_whole : IsTrue (is_whole island)
+unfolding picked rank select excess tabulate close_of open_of mate_of pair_number falling innermost balance_fault is_first mate component_of after before edge_of pair_round node_of ring_of first_of_edge first_of_node first_of_shell first_some seq_fault number_of is_names is_whole has_sizes signed_at place_fault order_fault isolated_fault places_fault start_fault member_fault
+island_whole = refl
+
+pub island_room : IsTrue (has_room_for 1 island)
+unfolding has_room_for
+island_room = refl

@@ -43,3 +43,8 @@ pub balance-found : {S : Type 0} (r : Result S ℕ) (bits bits' : List Bool) (to
 balance-found r bits bits' to e f h =
     let at = subst (λ n. MatchResult r (λ _. IsTrue (is_balanced bits 0 n)) (λ place. balance_fault bits 0 n ≡ Some place)) f h in
     subst (λ xs. Finds (balance_fault xs 0 (length xs)) r) e (balance-here r bits at)
+
+-- a check of a fault that is another's
+pub fault-found : {S F : Type 0} (r : Result S F) (p o : Option F) → p ≡ o → MatchResult r (λ _. p ≡ None) (λ f. p ≡ Some f) → Finds o r
+fault-found (Ok s) p o e h = sym e ∙ h
+fault-found (Err f) p o e h = sym e ∙ h

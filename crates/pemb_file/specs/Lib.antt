@@ -1,8 +1,11 @@
 pub mod Parts
 pub mod Served
+pub mod Form
 pub mod Header
+pub mod Section
 pub mod Checked
 pub mod Kinds
+pub mod Costs
 pub mod Parens
 pub mod PlacedFits
 pub mod PlacedView

@@ -4,7 +4,7 @@ use Rattle.bit_words.specs.BitView.{bits_of}
 use Rattle.bit_words.specs.PackedView.{fields_of}
 use Rattle.parens.specs.ParenView.{parens_of}
 use Rattle.turan_code.specs.TuranView.{code_of_view}
-use Rattle.id_names.specs.NamesView.{ids_of}
+use Rattle.id_names.specs.Views.{ids_of}
 use Rattle.file_laws.specs.Contents.{Contents, component_count, contents_with}
 use Rattle.code_laws.specs.Numbers.{tree_edges}
 use Rattle.region_tree.specs.RegionView.{Regions}

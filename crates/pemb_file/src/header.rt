@@ -4,11 +4,13 @@ ghost use Rattle.std.specs.Prelude.{◌≡◌, ◌≤◌, ◌+◌, ◌%◌, ◌=
 ghost use Rattle.bit_words.specs.WordView.{words_of as view_words};
 ghost use Rattle.sha2.specs.Sha256.{sha256};
 ghost use Rattle.plane_model.specs.Sets.{or_else};
-ghost use Rattle.file_laws.specs.Layout.{words_of, counts_in, file_words, header_words};
+ghost use Rattle.file_laws.specs.Layout.{words_of, counts_in, node_count, face_count, file_words, header_words};
+ghost use Rattle.pemb_file.specs.Form.{number_of};
 ghost use Rattle.pemb_file.specs.Header.{counts_of_header};
-ghost use Rattle.file_laws.specs.Faults.{unless, magic, front_fault, digest_fault, count_fault};
+ghost use Rattle.file_laws.specs.Faults.{unless, magic, most, front_fault, digest_fault, count_fault};
 ghost use Rattle.pemb_file.specs.Checked.{Finds};
 
+use crate::form::Form;
 use crate::image::Image;
 use crate::layout::Header;
 use bit_words::{Steps, WordView};
@@ -35,9 +37,9 @@ fn whole_words<'a>(bytes: &'a [u8]) -> Result<WordView<'a>, FileFault>
     }
 }
 
-/// Whether there is a whole header, with the first word of this kind of file.
+/// Whether there are the words up to the counts, and the first is that of this kind of file.
 fn check_head<C: Ledger>(words: &WordView<'_>, steps: &mut Steps<C>) -> Result<(), FileFault>
-    ensures fault { Finds (unless (nat_le header_words (length (view_words words.now)) && (slice_index (view_words words.now) 0 == magic)) (FileFault.NotPemb (length (view_words words.now)))) result }
+    ensures fault { Finds (unless (nat_le 11 (length (view_words words.now)) && (slice_index (view_words words.now) 0 == magic)) (FileFault.NotPemb (length (view_words words.now)))) result }
     ensures long { OnOk result (11 ≤ length (view_words words.now)) }
     ensures grows { steps.old ≤ steps.new }
     ensures cost { steps.new ≤ steps.old + 1 }
@@ -51,32 +53,51 @@ fn check_head<C: Ledger>(words: &WordView<'_>, steps: &mut Steps<C>) -> Result<(
     }
 }
 
-/// Whether the form is 0.
-fn check_form<C: Ledger>(words: &WordView<'_>, steps: &mut Steps<C>) -> Result<(), FileFault>
+/// The form of the file.
+fn form<C: Ledger>(words: &WordView<'_>, steps: &mut Steps<C>) -> Result<Form, FileFault>
     requires { 11 ≤ length (view_words words.now) }
-    ensures fault { Finds (unless (slice_index (view_words words.now) 1 == 0) (FileFault.UnknownForm (slice_index (view_words words.now) 1))) result }
+    ensures fault { Finds (unless ((slice_index (view_words words.now) 1 == 1) || (slice_index (view_words words.now) 1 == 2)) (FileFault.UnknownForm (slice_index (view_words words.now) 1))) result }
+    ensures form { IfOk result (λ form. number_of form ≡ slice_index (view_words words.now) 1) }
     ensures one_step { steps.new ≡ steps.old + 1 }
 {
-    let form = words.word(1, steps);
-    if form == 0 {
-        Ok(())
-    } else {
-        Err(FileFault::UnknownForm { form })
+    let number = words.word(1, steps);
+    match Form::from_number(number) {
+        Some(form) => Ok(form),
+        None => Err(FileFault::UnknownForm { form: number }),
     }
 }
 
-/// The counts in the header.
-fn header<C: Ledger>(words: &WordView<'_>, steps: &mut Steps<C>) -> Header
-    requires { 11 ≤ length (view_words words.now) }
+/// Whether there is a whole header.
+fn check_header(words: &WordView<'_>) -> Result<(), FileFault>
+    ensures fault { Finds (unless (nat_le header_words (length (view_words words.now))) (FileFault.Length header_words (length (view_words words.now)))) result }
+    ensures long { OnOk result (15 ≤ length (view_words words.now)) }
+{
+    let have = words.len() as u64;
+    if have >= 15 {
+        Ok(())
+    } else {
+        Err(FileFault::Length { want: 15, have })
+    }
+}
+
+/// The counts in the header of a file of this form.
+fn header<C: Ledger>(words: &WordView<'_>, form: Form, steps: &mut Steps<C>) -> Header
+    requires long { 15 ≤ length (view_words words.now) }
+    requires form { number_of form ≡ slice_index (view_words words.now) 1 }
     ensures counts { counts_of_header result ≡ counts_in (view_words words.now) }
-    ensures steps { steps.new ≡ steps.old + 5 }
+    ensures steps { steps.new ≡ steps.old + 9 }
 {
     Header {
+        form,
         edges: words.word(6, steps),
         tree_edges: words.word(7, steps),
         components: words.word(8, steps),
         isolated: words.word(9, steps),
         regions: words.word(10, steps),
+        node_back: words.word(11, steps),
+        edge_back: words.word(12, steps),
+        face_back: words.word(13, steps),
+        region_back: words.word(14, steps),
     }
 }
 
@@ -121,41 +142,51 @@ fn components_fit(header: Header) -> bool
     header.components <= header.edges && (header.edges == 0 || header.components > 0)
 }
 
+/// Whether there are few enough nodes.
+fn nodes_fit(header: Header) -> bool
+    ensures { result ≡ nat_le (node_count (counts_of_header header)) most }
+{
+    header.nodes() <= u128::from(MOST)
+}
+
+/// Whether no more nodes have a back pointer than there are.
+fn node_back_fits(header: Header) -> bool
+    ensures { result ≡ nat_le header.node_back (node_count (counts_of_header header)) }
+{
+    u128::from(header.node_back) <= header.nodes()
+}
+
+/// Whether no more faces have a back pointer than there are.
+fn face_back_fits(header: Header) -> bool
+    ensures { result ≡ nat_le header.face_back (face_count (counts_of_header header)) }
+{
+    header.face_back <= header.faces()
+}
+
+/// The fault of a count that stands in this word, where it is out of its range.
+fn check_count(fits: bool, word: u64, found: u64) -> Result<(), FileFault>
+    ensures { Finds (unless fits (FileFault.Count word found)) result }
+{
+    if fits {
+        Ok(())
+    } else {
+        Err(FileFault::Count { word, found })
+    }
+}
+
 /// The first count that is out of its range.
 fn check_counts(header: Header) -> Result<(), FileFault>
     ensures { Finds (count_fault (counts_of_header header)) result }
 {
-    if header.edges > MOST {
-        return Err(FileFault::Count {
-            word: 6,
-            found: header.edges,
-        });
-    }
-    if header.tree_edges > header.edges {
-        return Err(FileFault::Count {
-            word: 7,
-            found: header.tree_edges,
-        });
-    }
-    if !components_fit(header) {
-        return Err(FileFault::Count {
-            word: 8,
-            found: header.components,
-        });
-    }
-    if header.nodes() > u128::from(MOST) {
-        return Err(FileFault::Count {
-            word: 9,
-            found: header.isolated,
-        });
-    }
-    if header.regions > MOST {
-        return Err(FileFault::Count {
-            word: 10,
-            found: header.regions,
-        });
-    }
-    Ok(())
+    check_count(header.edges <= MOST, 6, header.edges)?;
+    check_count(header.tree_edges <= header.edges, 7, header.tree_edges)?;
+    check_count(components_fit(header), 8, header.components)?;
+    check_count(nodes_fit(header), 9, header.isolated)?;
+    check_count(header.regions <= MOST, 10, header.regions)?;
+    check_count(node_back_fits(header), 11, header.node_back)?;
+    check_count(header.edge_back <= header.edges, 12, header.edge_back)?;
+    check_count(face_back_fits(header), 13, header.face_back)?;
+    check_count(header.region_back <= header.regions, 14, header.region_back)
 }
 
 /// The words of a file whose header has no fault, or its first fault.
@@ -166,12 +197,13 @@ pub(crate) fn open_header<'a, C: Ledger>(
     ensures fault { Finds (or_else (front_fault bytes.now) (or_else (digest_fault bytes.now) (count_fault (counts_in (words_of bytes.now))))) result }
     ensures words { IfOk result (λ image. view_words image.words ≡ words_of bytes.now) }
     ensures grows { steps.old ≤ steps.new }
-    ensures cost { steps.new ≤ steps.old + 7 }
+    ensures cost { steps.new ≤ steps.old + 11 }
 {
     let words = whole_words(bytes)?;
     check_head(&words, steps)?;
-    check_form(&words, steps)?;
-    let header = header(&words, steps);
+    let form = form(&words, steps)?;
+    check_header(&words)?;
+    let header = header(&words, form, steps);
     check_length(&words, header)?;
     check_digest(bytes)?;
     check_counts(header)?;

@@ -2,12 +2,15 @@
 #![tactic(auto)]
 
 mod counts;
+mod form;
 mod header;
 mod image;
 mod layout;
+mod name_sections;
 mod opening;
 mod parts;
 mod places;
+mod section;
 mod served;
 mod writing;
 
@@ -16,7 +19,7 @@ pub use file_laws::FileFault;
 pub use opening::open;
 pub use parts::ImageParts;
 pub use served::Served;
-pub use writing::write_image;
+pub use writing::{write_image, write_old_image};
 
 #[cfg(test)]
 mod tests;

@@ -4,11 +4,12 @@ ghost use Rattle.std.specs.Prelude.{◌≡◌, ◌≤◌, ◌+◌, ◌*◌, None
 ghost use Rattle.bit_words.specs.Digits.{digits};
 ghost use Rattle.bit_words.specs.WordView.{words_of as view_words};
 ghost use Rattle.parens.specs.ParenView.{parens_of};
-ghost use Rattle.id_names.specs.NamesView.{ids_of};
+ghost use Rattle.id_names.specs.Views.{ids_of};
 ghost use Rattle.turan_code.specs.TuranView.{code_of_view};
 ghost use Rattle.code_laws.specs.SeqFault.{is_sound, first_some};
-ghost use Rattle.file_laws.specs.Layout.{counts_in, words_of, bits_at, fields_at};
-ghost use Rattle.file_laws.specs.Contents.{contents_of};
+ghost use Rattle.file_laws.specs.Layout.{counts_in, words_of, bits_at};
+ghost use Rattle.file_laws.specs.Held.{ids_at, contents_of};
+ghost use Rattle.pemb_file.specs.Costs.{placed_cost, all_names_cost};
 ghost use Rattle.pemb_file.specs.Kinds.{is_named};
 ghost use Rattle.pemb_file.specs.Parens.{HasParens};
 ghost use Rattle.file_laws.specs.Faults.{front_fault, digest_fault, count_fault, directories_fault, names_fault, all_names_fault, places_fault, start_fault, regions_fault};
@@ -56,13 +57,13 @@ fn code_view<'a>(image: &Image<'a>) -> TuranView<'a>
     })
 }
 
-/// Names in a section and the next.
+/// The names in the sections behind a number.
 fn names_view<'a>(image: &Image<'a>, number: u64) -> NamesView<'a>
     requires named { IsTrue (is_named number) }
     requires right { names_fault (view_words image.now.words) number ≡ None }
-    ensures { ids_of result ≡ fields_at (view_words image.now.words) number }
+    ensures { ids_of result ≡ ids_at (view_words image.now.words) number }
 {
-    NamesView::new(image.fields(number), image.fields(number + 1))
+    NamesView::new(image.names(number))
 }
 
 /// Whether places and starts are right.
@@ -72,20 +73,20 @@ fn check_placed<C: Ledger>(
     steps: &mut Steps<C>,
 ) -> Result<(), FileFault>
     requires code { code_of_view code ≡ (contents_of (view_words image.now.words)).code }
-    requires names { names_fault (view_words image.now.words) 13 ≡ None }
+    requires names { all_names_fault (view_words image.now.words) ≡ None }
     ensures fault { Finds (first_some (places_fault (contents_of (view_words image.now.words)) ∷ start_fault (contents_of (view_words image.now.words)) ∷ [])) result }
     ensures grows { steps.old ≤ steps.new }
-    ensures cost { steps.new ≤ steps.old + 2 * (counts_in (view_words image.now.words)).edges * (10 * digits (2 * (counts_in (view_words image.now.words)).edges + 2) + 139) + (counts_in (view_words image.now.words)).components * (48 * digits (2 * (counts_in (view_words image.now.words)).edges + 2) + 379) + (counts_in (view_words image.now.words)).isolated * 8 }
+    ensures cost { steps.new ≤ steps.old + placed_cost (counts_in (view_words image.now.words)) }
 {
     let placed = Placed {
         code,
         forward: image.bits(10),
-        nodes: image.fields(11),
-        edges: image.fields(13),
+        nodes: names_view(image, 30),
+        edges: names_view(image, 40),
         places: image.fields(17),
         place_order: image.fields(18),
         isolated: image.fields(19),
-        faces: image.fields(15),
+        faces: names_view(image, 50),
     };
     placed.check_places(steps)?;
     placed.check_starts(steps)
@@ -102,10 +103,10 @@ fn served<'a>(image: &Image<'a>, code: TuranView<'a>) -> Served<'a>
     Served::new(
         code,
         image.bits(10),
-        names_view(image, 11),
-        names_view(image, 13),
-        names_view(image, 15),
-        names_view(image, 23),
+        names_view(image, 30),
+        names_view(image, 40),
+        names_view(image, 50),
+        names_view(image, 60),
         image.fields(17),
         image.fields(18),
         image.fields(19),
@@ -119,7 +120,7 @@ fn content<'a, C: Ledger>(image: &Image<'a>, steps: &mut Steps<C>) -> Result<Ser
     ensures fault { Finds (content_fault (view_words image.now.words)) result }
     ensures contents { IfOk result (λ s. contents_of_view s ≡ contents_of (view_words image.now.words)) }
     ensures grows { steps.old ≤ steps.new }
-    ensures cost { steps.new ≤ steps.old + 2 * (counts_in (view_words image.now.words)).edges * (10 * digits (2 * (counts_in (view_words image.now.words)).edges + 2) + 139) + (counts_in (view_words image.now.words)).components * (48 * digits (2 * (counts_in (view_words image.now.words)).edges + 2) + 379) + (counts_in (view_words image.now.words)).isolated * 8 + 50 * (counts_in (view_words image.now.words)).edges + 4 * (counts_in (view_words image.now.words)).isolated + 16 * (counts_in (view_words image.now.words)).regions + 205 }
+    ensures cost { steps.new ≤ steps.old + placed_cost (counts_in (view_words image.now.words)) + all_names_cost (counts_in (view_words image.now.words)) + 42 * (counts_in (view_words image.now.words)).edges + 12 * (counts_in (view_words image.now.words)).regions + 209 }
 {
     image.check_code(steps)?;
     image.check_directories(steps)?;

@@ -6,13 +6,16 @@ ghost use Rattle.pemb_file.specs.Checked.{Finds};
 ghost use Rattle.bit_words.specs.BitView.{bits_of};
 ghost use Rattle.bit_words.specs.PackedView.{fields_of};
 ghost use Rattle.turan_code.specs.TuranView.{code_of_view};
+ghost use Rattle.id_names.specs.Views.{ids_of};
 ghost use Rattle.file_laws.specs.Contents.{contents_with};
 ghost use Rattle.pemb_file.specs.PlacedFits.{PlacedFits};
 
 use bit_words::{BitView, PackedView, Steps};
 use code_laws::RingNumber;
 use file_laws::FileFault;
+use id_names::NamesView;
 use std::sync::ledger::Ledger;
+use topo_base::SignedNumber;
 use turan_code::TuranView;
 
 /// A sound code with the ids of its edges, and the places of components and isolated nodes.
@@ -20,13 +23,13 @@ use turan_code::TuranView;
 pub(crate) struct Placed<'a> {
     pub(crate) code: TuranView<'a>,
     pub(crate) forward: BitView<'a>,
-    pub(crate) nodes: PackedView<'a>,
-    pub(crate) edges: PackedView<'a>,
+    pub(crate) nodes: NamesView<'a>,
+    pub(crate) edges: NamesView<'a>,
     pub(crate) places: PackedView<'a>,
     pub(crate) place_order: PackedView<'a>,
     pub(crate) isolated: PackedView<'a>,
-    pub(crate) faces: PackedView<'a>,
-    ghost fits: { PlacedFits (contents_with (code_of_view code) (bits_of forward) (fields_of nodes) (fields_of edges) (fields_of faces) [] (fields_of places) (fields_of place_order) (fields_of isolated) [] []) },
+    pub(crate) faces: NamesView<'a>,
+    ghost fits: { PlacedFits (contents_with (code_of_view code) (bits_of forward) (ids_of nodes) (ids_of edges) (ids_of faces) [] (fields_of places) (fields_of place_order) (fields_of isolated) [] []) },
 }
 
 impl<'a> Placed<'a> {
@@ -41,14 +44,15 @@ impl<'a> Placed<'a> {
     ghost use Rattle.pemb_file.specs.PlacedView.{contents_of_placed};
 
     /// The signed edge at position `p`.
-    fn signed_at<C: Ledger>(&self, p: usize, steps: &mut Steps<C>) -> i32
+    fn signed_at<C: Ledger>(&self, p: usize, steps: &mut Steps<C>) -> SignedNumber
         requires { p < length (contents_of_placed self.now).code.a }
         ensures value { result ≡ signed_at (contents_of_placed self.now) p }
         ensures grows { steps.old ≤ steps.new }
-        ensures cost { steps.new ≤ steps.old + 4 * digits (length (contents_of_placed self.now).code.a + 2) + 75 }
+        ensures cost { steps.new ≤ steps.old + 7 * digits (length (contents_of_placed self.now).code.a + 2) + 93 }
     {
         let edge = self.code.edge_of(p, steps) as usize;
-        let id = self.edges.field(edge, steps) as i32;
+        let _count = self.edges.count();
+        let id = self.edges.id_of(edge, steps) as SignedNumber;
         if self.code.is_first(p, steps) == self.forward.bit(edge, steps) {
             id
         } else {
@@ -121,7 +125,7 @@ impl<'a> Placed<'a> {
         requires second { j < length (contents_of_placed self.now).places }
         ensures precedes { result ≡ precedes (contents_of_placed self.now) i j }
         ensures grows { steps.old ≤ steps.new }
-        ensures cost { steps.new ≤ steps.old + 20 * digits (length (contents_of_placed self.now).code.a + 2) + 202 }
+        ensures cost { steps.new ≤ steps.old + 26 * digits (length (contents_of_placed self.now).code.a + 2) + 238 }
     {
         let (p, q) = (self.places.field(i, steps), self.places.field(j, steps));
         if p != q {
@@ -137,7 +141,7 @@ impl<'a> Placed<'a> {
         requires before { (k : ℕ) → k < j → slice_index (contents_of_placed self.now).place_order k < length (contents_of_placed self.now).places }
         ensures ordered { result ≡ is_ordered (contents_of_placed self.now) j }
         ensures grows { steps.old ≤ steps.new }
-        ensures cost { steps.new ≤ steps.old + 20 * digits (length (contents_of_placed self.now).code.a + 2) + 206 }
+        ensures cost { steps.new ≤ steps.old + 26 * digits (length (contents_of_placed self.now).code.a + 2) + 242 }
     {
         let component = self.place_order.field(j, steps);
         if component >= self.places.count() as u64 {
@@ -154,7 +158,7 @@ impl<'a> Placed<'a> {
     fn wrong_order<C: Ledger>(&self, steps: &mut Steps<C>) -> Option<usize>
         ensures order { result ≡ order_fault (contents_of_placed self.now) }
         ensures grows { steps.old ≤ steps.new }
-        ensures cost { steps.new ≤ steps.old + length (contents_of_placed self.now).places * (20 * digits (length (contents_of_placed self.now).code.a + 2) + 206) }
+        ensures cost { steps.new ≤ steps.old + length (contents_of_placed self.now).places * (26 * digits (length (contents_of_placed self.now).code.a + 2) + 242) }
     {
         for j in 0..self.place_order.count() {
             if !self.is_ordered(j, steps) {
@@ -169,10 +173,10 @@ impl<'a> Placed<'a> {
         requires { j < length (contents_of_placed self.now).isolated }
         ensures id { result ≡ isolated_id (contents_of_placed self.now) j }
         ensures grows { steps.old ≤ steps.new }
-        ensures cost { steps.new ≤ steps.old + 2 }
+        ensures cost { steps.new ≤ steps.old + 3 * digits (length (contents_of_placed self.now).nodes + 2) + 20 }
     {
         self.nodes
-            .field(self.nodes.count() - self.isolated.count() + j, steps)
+            .id_of(self.nodes.count() - self.isolated.count() + j, steps)
     }
 
     /// Whether isolated node `j` has a place, and follows the one before it.
@@ -180,7 +184,7 @@ impl<'a> Placed<'a> {
         requires { j < length (contents_of_placed self.now).isolated }
         ensures isolated { result ≡ is_isolated (contents_of_placed self.now) j }
         ensures grows { steps.old ≤ steps.new }
-        ensures cost { steps.new ≤ steps.old + 8 }
+        ensures cost { steps.new ≤ steps.old + 6 * digits (length (contents_of_placed self.now).nodes + 2) + 44 }
     {
         let place = self.isolated.field(j, steps);
         if place > self.faces.count() as u64 {
@@ -200,7 +204,7 @@ impl<'a> Placed<'a> {
     fn wrong_isolated<C: Ledger>(&self, steps: &mut Steps<C>) -> Option<usize>
         ensures isolated { result ≡ isolated_fault (contents_of_placed self.now) }
         ensures grows { steps.old ≤ steps.new }
-        ensures cost { steps.new ≤ steps.old + length (contents_of_placed self.now).isolated * 8 }
+        ensures cost { steps.new ≤ steps.old + length (contents_of_placed self.now).isolated * (6 * digits (length (contents_of_placed self.now).nodes + 2) + 44) }
     {
         for j in 0..self.isolated.count() {
             if !self.is_isolated(j, steps) {
@@ -214,7 +218,7 @@ impl<'a> Placed<'a> {
     pub(crate) fn check_places<C: Ledger>(&self, steps: &mut Steps<C>) -> Result<(), FileFault>
         ensures fault { Finds (places_fault (contents_of_placed self.now)) result }
         ensures grows { steps.old ≤ steps.new }
-        ensures cost { steps.new ≤ steps.old + length (contents_of_placed self.now).places * (32 * digits (length (contents_of_placed self.now).code.a + 2) + 256) + length (contents_of_placed self.now).isolated * 8 }
+        ensures cost { steps.new ≤ steps.old + length (contents_of_placed self.now).places * (38 * digits (length (contents_of_placed self.now).code.a + 2) + 292) + length (contents_of_placed self.now).isolated * (6 * digits (length (contents_of_placed self.now).nodes + 2) + 44) }
     {
         place(17, self.wrong_place(steps))?;
         place(18, self.wrong_order(steps))?;
@@ -225,14 +229,14 @@ impl<'a> Placed<'a> {
     fn is_smaller<C: Ledger>(
         &self,
         component: usize,
-        than: i32,
+        than: SignedNumber,
         p: usize,
         steps: &mut Steps<C>,
     ) -> bool
         requires { p < length (contents_of_placed self.now).code.a }
         ensures smaller { result ≡ (is_outer component (ring_of (contents_of_placed self.now).code p) && comes_before (signed_at (contents_of_placed self.now) p) than) }
         ensures grows { steps.old ≤ steps.new }
-        ensures cost { steps.new ≤ steps.old + 10 * digits (length (contents_of_placed self.now).code.a + 2) + 139 }
+        ensures cost { steps.new ≤ steps.old + 13 * digits (length (contents_of_placed self.now).code.a + 2) + 157 }
     {
         match self.code.ring_of(p, steps) {
             RingNumber::Outer(of) => {
@@ -261,7 +265,7 @@ impl<'a> Placed<'a> {
         requires { component < components_of_code (contents_of_placed self.now).code }
         ensures smallest { result ≡ is_smallest (contents_of_placed self.now) component }
         ensures grows { steps.old ≤ steps.new }
-        ensures cost { steps.new ≤ steps.old + (end_of (contents_of_placed self.now).code component - start_of (contents_of_placed self.now).code component) * (10 * digits (length (contents_of_placed self.now).code.a + 2) + 139) + (16 * digits (length (contents_of_placed self.now).code.a + 2) + 123) }
+        ensures cost { steps.new ≤ steps.old + (end_of (contents_of_placed self.now).code component - start_of (contents_of_placed self.now).code component) * (13 * digits (length (contents_of_placed self.now).code.a + 2) + 157) + (19 * digits (length (contents_of_placed self.now).code.a + 2) + 141) }
     {
         let from = self.start(component, steps);
         let to = self.end(component, steps);
@@ -278,7 +282,7 @@ impl<'a> Placed<'a> {
     pub(crate) fn check_starts<C: Ledger>(&self, steps: &mut Steps<C>) -> Result<(), FileFault>
         ensures fault { Finds (start_fault (contents_of_placed self.now)) result }
         ensures grows { steps.old ≤ steps.new }
-        ensures cost { steps.new ≤ steps.old + length (contents_of_placed self.now).code.a * (10 * digits (length (contents_of_placed self.now).code.a + 2) + 139) + length (contents_of_placed self.now).places * (16 * digits (length (contents_of_placed self.now).code.a + 2) + 123) }
+        ensures cost { steps.new ≤ steps.old + length (contents_of_placed self.now).code.a * (13 * digits (length (contents_of_placed self.now).code.a + 2) + 157) + length (contents_of_placed self.now).places * (19 * digits (length (contents_of_placed self.now).code.a + 2) + 141) }
     {
         for component in 0..self.places.count() {
             if !self.is_smallest(component, steps) {
@@ -292,7 +296,7 @@ impl<'a> Placed<'a> {
 }
 
 /// Whether the first of two signed edges is the smaller.
-fn comes_before(first: i32, second: i32) -> bool
+fn comes_before(first: SignedNumber, second: SignedNumber) -> bool
     ensures { result ≡ comes_before first second }
 {
     let (edge, other) = (first.unsigned_abs(), second.unsigned_abs());

@@ -5,7 +5,7 @@ ghost use Rattle.bit_words.specs.BitView.{bits_of};
 ghost use Rattle.bit_words.specs.PackedView.{fields_of};
 ghost use Rattle.parens.specs.ParenView.{parens_of};
 ghost use Rattle.turan_code.specs.TuranView.{code_of_view};
-ghost use Rattle.id_names.specs.NamesView.{ids_of};
+ghost use Rattle.id_names.specs.Views.{ids_of};
 ghost use Rattle.file_laws.specs.Contents.{contents_with};
 ghost use Rattle.file_laws.specs.Lawful.{is_whole};
 
@@ -38,7 +38,7 @@ pub struct Served<'a> {
 impl<'a> Served<'a> {
     ghost use Rattle.std.specs.Prelude.{◌≡◌, ◌<◌, ◌≤◌, ◌+◌, length, slice_index, slice_index_or, false, IsTrue};
     ghost use Rattle.turan_code.specs.TuranView.{code_of_view};
-    ghost use Rattle.id_names.specs.NamesView.{ids_of};
+    ghost use Rattle.id_names.specs.Views.{ids_of};
     ghost use Rattle.bit_words.specs.BitView.{bits_of};
     ghost use Rattle.bit_words.specs.PackedView.{fields_of};
     ghost use Rattle.parens.specs.ParenView.{parens_of};

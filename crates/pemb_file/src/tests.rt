@@ -1,13 +1,11 @@
-//! Worked files, written, opened and damaged.
+//! Worked files, opened and damaged, and written.
 
-ghost use Rattle.std.specs.Prelude.{◌≡◌, ◌<◌, length, IfOk, IsTrue};
-ghost use Rattle.pemb_file.specs.Parts.{contents_of_parts};
-ghost use Rattle.file_laws.specs.Lawful.{is_whole};
-ghost use Rattle.file_laws.specs.Worked.{tri_contents, plain_contents};
+ghost use Rattle.std.specs.Prelude.{◌≡◌, ◌<◌};
 
-mod damaged;
+mod written;
 
-use crate::{Counts, FileFault, ImageParts, Served, open, write_image};
+use crate::tests::written::{NEW_TRIANGLE, OLD_ISLAND, OLD_TRIANGLE};
+use crate::{Counts, FileFault, Served, open};
 use bit_words::Steps;
 use code_laws::SeqFault;
 use sha2::{Digest, Sha256};
@@ -15,89 +13,6 @@ use std::alloc::Global;
 use std::marker::Brand;
 use std::sync::ledger::{Blank, Ledger};
 use std::test::Fail;
-
-/// The words of a triangle's file.
-const TRIANGLE: [u64; 35] = [
-    0x4f504f54424d4550,
-    0,
-    0x98123f2d89e12b54,
-    0x24707ab9fff0f346,
-    0xa1690037f568805d,
-    0xbcaa430544eb8301,
-    3,
-    2,
-    1,
-    0,
-    0,
-    27,
-    4 << 32,
-    3,
-    2 << 32,
-    0,
-    1,
-    1 << 32,
-    0,
-    6 << 32,
-    0,
-    2 + (1 << 32),
-    3,
-    1,
-    2,
-    1 + (3 << 32),
-    2,
-    2 << 32,
-    1,
-    1,
-    0,
-    0,
-    0,
-    0,
-    0,
-];
-
-/// The words of the file of a triangle with a closed edge and a node inside it, with 0 in place of its digest.
-const ISLAND: [u64; 40] = [
-    0x4f504f54424d4550,
-    0,
-    0,
-    0,
-    0,
-    0,
-    4,
-    2,
-    2,
-    1,
-    0,
-    27,
-    4 << 32,
-    3,
-    2 << 32,
-    0,
-    5,
-    2 << 32,
-    0,
-    6 << 32,
-    8,
-    0,
-    2 + (4 << 32),
-    1 + (3 << 32),
-    5,
-    2,
-    3 + (1 << 32),
-    4,
-    1 + (3 << 32),
-    2 + (4 << 32),
-    2 << 32,
-    1 + (3 << 32),
-    1 + (2 << 32),
-    1 << 32,
-    1 << 32,
-    1 << 32,
-    2,
-    0,
-    0,
-    0,
-];
 
 /// The bytes of these words, the lowest byte of each first.
 fn bytes_of(alloc: Global, words: &[u64]) -> Result<Vec<u8>, Fail> {
@@ -151,8 +66,8 @@ fn fault_with(
 
 /// The fault of the triangle's file with the lowest bit of one word flipped and the digest as it was.
 fn fault_flipped(alloc: Global, at: usize) -> Result<Option<FileFault>, Fail> {
-    let mut words = TRIANGLE;
-    if at < 35 {
+    let mut words = OLD_TRIANGLE;
+    if at < words.len() {
         words[at] ^= 1;
     }
     let bytes = bytes_of(alloc, &words)?;
@@ -161,53 +76,9 @@ fn fault_flipped(alloc: Global, at: usize) -> Result<Option<FileFault>, Fail> {
 
 /// The fault of the first bytes of the triangle's file.
 fn fault_cut(alloc: Global, len: usize) -> Result<Option<FileFault>, Fail> {
-    let mut bytes = bytes_of(alloc, &TRIANGLE)?;
+    let mut bytes = bytes_of(alloc, &OLD_TRIANGLE)?;
     bytes.truncate(len);
     Ok(fault(alloc, &bytes))
-}
-
-/// What the file of a triangle holds.
-fn triangle_parts(alloc: Global) -> Result<ImageParts, Fail>
-    ensures walk { IfOk result (λ parts. length parts.tree.items ≡ length parts.first.items) }
-    ensures parts { IfOk result (λ parts. contents_of_parts parts ≡ tri_contents) }
-{
-    Ok(ImageParts {
-        tree: vec![in alloc; true, true, false, true, true, false]?,
-        first: vec![in alloc; true, true, true, false, false, false]?,
-        starts: vec![in alloc; 0, 6]?,
-        forward: vec![in alloc; false, false, false]?,
-        nodes: vec![in alloc; 2, 1, 3]?,
-        edges: vec![in alloc; 1, 3, 2]?,
-        faces: vec![in alloc; 1]?,
-        places: vec![in alloc; 0]?,
-        place_order: vec![in alloc; 0]?,
-        isolated: Vec::new(alloc),
-        region_bits: Vec::new(alloc),
-        regions: Vec::new(alloc),
-        members: vec![in alloc; 0, 0]?,
-    })
-}
-
-/// What the file of a triangle with a closed edge and a node inside it holds.
-fn island_parts(alloc: Global) -> Result<ImageParts, Fail>
-    ensures walk { IfOk result (λ parts. length parts.tree.items ≡ length parts.first.items) }
-    ensures parts { IfOk result (λ parts. contents_of_parts parts ≡ plain_contents) }
-{
-    Ok(ImageParts {
-        tree: vec![in alloc; true, true, false, true, true, false, false, false]?,
-        first: vec![in alloc; true, true, true, false, false, false, true, false]?,
-        starts: vec![in alloc; 0, 6, 8]?,
-        forward: vec![in alloc; false, false, false, false]?,
-        nodes: vec![in alloc; 2, 4, 1, 3, 5]?,
-        edges: vec![in alloc; 1, 3, 2, 4]?,
-        faces: vec![in alloc; 1, 2]?,
-        places: vec![in alloc; 0, 1]?,
-        place_order: vec![in alloc; 0, 1]?,
-        isolated: vec![in alloc; 2]?,
-        region_bits: Vec::new(alloc),
-        regions: Vec::new(alloc),
-        members: vec![in alloc; 0, 0, 0]?,
-    })
 }
 
 /// What a file says of itself, and of its first component, edge and isolated node, 0 where it has none.
@@ -269,12 +140,8 @@ fn examined_counted<C: Ledger>(alloc: Global, bytes: &[u8], blank: Blank) -> Opt
 }
 
 #[test]
-fn the_file_of_a_triangle_is_written_and_opened(rt: HostRuntime) -> Result<(), Fail> {
+fn the_file_of_a_triangle_is_opened(rt: HostRuntime) -> Result<(), Fail> {
     let alloc = rt.alloc();
-    let parts = triangle_parts(alloc)?;
-    let image = write_image(alloc, &parts)?;
-    let want = bytes_of(alloc, &TRIANGLE)?;
-    assert!(rt; image.as_slice() == want.as_slice());
     let want = Seen {
         positions: 6,
         counts: Counts {
@@ -291,20 +158,22 @@ fn the_file_of_a_triangle_is_written_and_opened(rt: HostRuntime) -> Result<(), F
         forward: false,
         isolated: 0,
     };
-    assert_eq!(rt;
-        examined_counted::<Brand>(alloc, &image, Blank::new(1)),
-        Some(want)
-    );
+    for image in [
+        bytes_of(alloc, &OLD_TRIANGLE)?,
+        bytes_of(alloc, &NEW_TRIANGLE)?,
+    ] {
+        assert_eq!(rt;
+            examined_counted::<Brand>(alloc, &image, Blank::new(1)),
+            Some(want)
+        );
+    }
     Ok(())
 }
 
 #[test]
-fn the_file_of_an_island_is_written_and_opened(rt: HostRuntime) -> Result<(), Fail> {
+fn the_file_of_an_island_is_opened(rt: HostRuntime) -> Result<(), Fail> {
     let alloc = rt.alloc();
-    let parts = island_parts(alloc)?;
-    let image = write_image(alloc, &parts)?;
-    let want = sealed(alloc, &ISLAND)?;
-    assert!(rt; image.as_slice() == want.as_slice());
+    let image = sealed(alloc, &OLD_ISLAND)?;
     let want = Seen {
         positions: 8,
         counts: Counts {
@@ -314,7 +183,7 @@ fn the_file_of_an_island_is_written_and_opened(rt: HostRuntime) -> Result<(), Fa
             faces: 2,
             components: 2,
             isolated: 1,
-            regions: 0,
+            regions: 2,
         },
         place: 0,
         component: 0,
@@ -331,19 +200,22 @@ fn the_file_of_an_island_is_written_and_opened(rt: HostRuntime) -> Result<(), Fa
 #[test]
 fn a_cut_file_is_refused(rt: HostRuntime) -> Result<(), Fail> {
     let alloc = rt.alloc();
-    assert_eq!(rt; fault_cut(alloc, 280)?, None);
+    assert_eq!(rt; fault_cut(alloc, 416)?, None);
     assert_eq!(rt;
         fault_cut(alloc, 279)?,
         Some(FileFault::NotWords { bytes: 279 })
     );
-    for words in 0..35 {
-        let want = if words < 11 {
-            FileFault::NotPemb { words }
-        } else {
-            FileFault::Length {
-                want: 35,
+    for words in 0..52 {
+        let want = match words {
+            0..11 => FileFault::NotPemb { words },
+            11..15 => FileFault::Length {
+                want: 15,
                 have: words,
-            }
+            },
+            _ => FileFault::Length {
+                want: 52,
+                have: words,
+            },
         };
         assert_eq!(rt; fault_cut(alloc, 8 * words as usize)?, Some(want));
     }
@@ -352,16 +224,16 @@ fn a_cut_file_is_refused(rt: HostRuntime) -> Result<(), Fail> {
 
 /// What is said of the triangle's file with the lowest bit of this word flipped.
 fn flipped(word: usize) -> FileFault {
-    let want = [29, 31, 31, 36, 39];
+    let want = [46, 47, 49, 53, 57, 53, 53, 53, 53];
     match word {
-        0 => FileFault::NotPemb { words: 35 },
-        1 => FileFault::UnknownForm { form: 1 },
+        0 => FileFault::NotPemb { words: 52 },
+        1 => FileFault::UnknownForm { form: 0 },
         2..6 => FileFault::Digest {
             at: 8 * (word as u64 - 2),
         },
-        6..11 => FileFault::Length {
+        6..15 => FileFault::Length {
             want: want[word - 6],
-            have: 35,
+            have: 52,
         },
         _ => FileFault::Digest { at: 0 },
     }
@@ -369,7 +241,7 @@ fn flipped(word: usize) -> FileFault {
 
 #[test]
 fn a_flipped_bit_of_each_word_is_refused(rt: HostRuntime) -> Result<(), Fail> {
-    for word in 0..35 {
+    for word in 0..52 {
         assert_eq!(rt; fault_flipped(rt.alloc(), word)?, Some(flipped(word)));
     }
     Ok(())
@@ -378,40 +250,50 @@ fn a_flipped_bit_of_each_word_is_refused(rt: HostRuntime) -> Result<(), Fail> {
 #[test]
 fn other_words_of_a_triangle_are_told(rt: HostRuntime) -> Result<(), Fail> {
     for (at, word, want) in [
-        (20, 1, None),
-        (1, 1, Some(FileFault::UnknownForm { form: 1 })),
+        (24, 1, None),
+        (1, 3, Some(FileFault::UnknownForm { form: 3 })),
+        (1, 2, Some(FileFault::Length { want: 54, have: 52 })),
         (
             6,
             18446744073709551615,
             Some(FileFault::Length {
-                want: 47774184847146221588,
-                have: 35,
+                want: 50188114247416807456,
+                have: 52,
             }),
         ),
         (
-            11,
+            15,
             26,
             Some(FileFault::Sequence(SeqFault::Ones { found: 3 })),
         ),
         (
-            13,
+            17,
             6,
             Some(FileFault::Sequence(SeqFault::Tree { component: 0 })),
         ),
-        (23, 0, Some(FileFault::Name { section: 11, at: 1 })),
-        (27, 0, Some(FileFault::Name { section: 13, at: 1 })),
-        (30, 1, Some(FileFault::Name { section: 15, at: 0 })),
-        (31, 1, Some(FileFault::Place { section: 17, at: 0 })),
-        (13, 5, Some(FileFault::Start { component: 0 })),
-        (33, 2, Some(FileFault::RegionPart { section: 21, at: 0 })),
+        (25, 5, Some(FileFault::Name { section: 32, at: 1 })),
         (
-            34,
+            27,
+            864691129528877056,
+            Some(FileFault::Name { section: 33, at: 0 }),
+        ),
+        (29, 32, Some(FileFault::Name { section: 34, at: 1 })),
+        (30, 1, Some(FileFault::Name { section: 36, at: 1 })),
+        (36, 27, Some(FileFault::Name { section: 44, at: 0 })),
+        (41, 0, Some(FileFault::Name { section: 53, at: 0 })),
+        (45, 1, Some(FileFault::Place { section: 17, at: 0 })),
+        (46, 1, Some(FileFault::Place { section: 18, at: 0 })),
+        (17, 5, Some(FileFault::Start { component: 0 })),
+        (47, 2, Some(FileFault::RegionPart { section: 21, at: 0 })),
+        (49, 2, Some(FileFault::RegionPart { section: 62, at: 0 })),
+        (
+            51,
             1 << 32,
             Some(FileFault::RegionPart { section: 25, at: 1 }),
         ),
-        (11, 91, Some(FileFault::Padding { word: 11 })),
+        (15, 91, Some(FileFault::Padding { word: 15 })),
     ] {
-        assert_eq!(rt; fault_with(rt.alloc(), &TRIANGLE, at, word)?, want);
+        assert_eq!(rt; fault_with(rt.alloc(), &OLD_TRIANGLE, at, word)?, want);
     }
     Ok(())
 }
@@ -419,11 +301,11 @@ fn other_words_of_a_triangle_are_told(rt: HostRuntime) -> Result<(), Fail> {
 #[test]
 fn wrong_directories_of_a_triangle_are_told(rt: HostRuntime) -> Result<(), Fail> {
     for (at, word, section, entry, want, found) in [
-        (12, 5 << 32, 2, 1, 4, 5),
-        (14, 1 + (2 << 32), 4, 0, 0, 1),
-        (15, 7, 5, 0, 0, 7),
-        (17, 3 << 32, 7, 1, 1, 3),
-        (18, 1, 8, 0, 0, 1),
+        (16, 5 << 32, 2, 1, 4, 5),
+        (18, 1 + (2 << 32), 4, 0, 0, 1),
+        (19, 7, 5, 0, 0, 7),
+        (21, 3 << 32, 7, 1, 1, 3),
+        (22, 1, 8, 0, 0, 1),
     ] {
         let fault = FileFault::Directory {
             section,
@@ -431,7 +313,10 @@ fn wrong_directories_of_a_triangle_are_told(rt: HostRuntime) -> Result<(), Fail>
             want,
             found,
         };
-        assert_eq!(rt; fault_with(rt.alloc(), &TRIANGLE, at, word)?, Some(fault));
+        assert_eq!(rt;
+            fault_with(rt.alloc(), &OLD_TRIANGLE, at, word)?,
+            Some(fault)
+        );
     }
     Ok(())
 }
@@ -439,15 +324,19 @@ fn wrong_directories_of_a_triangle_are_told(rt: HostRuntime) -> Result<(), Fail>
 #[test]
 fn other_words_of_an_island_are_told(rt: HostRuntime) -> Result<(), Fail> {
     for (at, word, want) in [
-        (19, 0, FileFault::Sequence(SeqFault::Starts { index: 1 })),
-        (16, 9, FileFault::Sequence(SeqFault::Dual { component: 1 })),
-        (35, 1, FileFault::Place { section: 18, at: 1 }),
-        (36, 3, FileFault::Place { section: 19, at: 0 }),
-        (37, 1, FileFault::RegionPart { section: 21, at: 0 }),
-        (39, 1, FileFault::RegionPart { section: 25, at: 2 }),
-        (39, 1 << 32, FileFault::Padding { word: 39 }),
+        (23, 0, FileFault::Sequence(SeqFault::Starts { index: 1 })),
+        (20, 9, FileFault::Sequence(SeqFault::Dual { component: 1 })),
+        (34, 0, FileFault::Name { section: 34, at: 2 }),
+        (48, 2, FileFault::Place { section: 17, at: 0 }),
+        (49, 1, FileFault::Place { section: 18, at: 1 }),
+        (50, 3, FileFault::Place { section: 19, at: 0 }),
+        (51, 6, FileFault::RegionPart { section: 20, at: 0 }),
+        (53, 1, FileFault::RegionPart { section: 22, at: 0 }),
+        (57, 5, FileFault::RegionPart { section: 64, at: 0 }),
+        (61, 3, FileFault::RegionPart { section: 25, at: 2 }),
+        (61, 1 << 40, FileFault::Padding { word: 61 }),
     ] {
-        assert_eq!(rt; fault_with(rt.alloc(), &ISLAND, at, word)?, Some(want));
+        assert_eq!(rt; fault_with(rt.alloc(), &OLD_ISLAND, at, word)?, Some(want));
     }
     Ok(())
 }

@@ -1,28 +1,39 @@
 //! The image of parts: the bytes of a lawful file that holds them.
 
-ghost use Rattle.std.specs.Prelude.{ℕ, ◌≡◌, ◌≤◌, ◌<◌, ◌+◌, ◌*◌, ◌^◌, [], ◌∷◌, ◌++◌, None, length, take, drop, slice_index, IfOk, OnOk, IsTrue};
+ghost use Rattle.std.specs.Prelude.{ℕ, ◌≡◌, ◌≤◌, ◌<◌, ◌+◌, ◌*◌, ◌^◌, List, [], ◌∷◌, ◌++◌, length, take, drop, slice_index, IfOk, OnOk, IsTrue};
 ghost use Rattle.sha2.specs.Sha256.{sha256};
 ghost use Rattle.bit_words.specs.Packed.{PackedList};
-ghost use Rattle.id_names.specs.Names.{AreDistinctIds, name_fault};
+ghost use Rattle.id_names.specs.Names.{AreDistinctIds};
 ghost use Rattle.code_laws.specs.Tour.{code_of};
 ghost use Rattle.turan_code.specs.CodeWords.{AreWordsOf};
-ghost use Rattle.file_laws.specs.Layout.{words_of, file_words};
+ghost use Rattle.file_laws.specs.Layout.{words_of, file_words, id_bits};
+ghost use Rattle.file_laws.specs.Held.{contents_of};
+ghost use Rattle.file_laws.specs.Lawful.{is_lawful, is_whole, has_room_for};
+ghost use Rattle.file_laws.specs.Image.{bytes_of, with_bits, with_fields, with_tree, with_names, code_sections, filled, counts_of_contents, image_of};
+ghost use Rattle.pemb_file.specs.Form.{number_of};
 ghost use Rattle.pemb_file.specs.Header.{counts_of_header};
-ghost use Rattle.file_laws.specs.Contents.{contents_of};
 ghost use Rattle.pemb_file.specs.Parts.{contents_of_parts};
-ghost use Rattle.file_laws.specs.Lawful.{is_lawful, is_whole};
-ghost use Rattle.file_laws.specs.Faults.{magic};
-ghost use Rattle.file_laws.specs.Image.{bytes_of, order_of, with_bits, with_fields, with_tree, with_names, code_sections, filled, counts_of_contents, counts_words, image_of};
-ghost use Rattle.pemb_file.specs.Written.{Written, AreOrdered};
+ghost use Rattle.pemb_file.specs.Written.{Written, blank_header, HoldNames, HoldAllNames};
 
+use crate::form::Form;
 use crate::header::{MAGIC, digest_of};
 use crate::layout::Header;
 use crate::parts::ImageParts;
 use bit_words::{BitMaker, Memory, PackedMaker};
+use id_names::NameWords;
 use rank_select::make_counts;
 use std::alloc::Global;
 use topo_base::IdNumber;
 use turan_code::CodeWords;
+
+/// The words of the names of each class.
+#[derive(Drop)]
+pub(crate) struct AllNames {
+    pub(crate) nodes: NameWords,
+    pub(crate) edges: NameWords,
+    pub(crate) faces: NameWords,
+    pub(crate) regions: NameWords,
+}
 
 /// Puts bytes at the end.
 fn push_bytes(image: &mut Vec<u8>, bytes: &[u8]) -> Result<(), Memory>
@@ -87,16 +98,40 @@ fn push_fields(alloc: Global, image: &mut Vec<u8>, items: &[u32]) -> Result<(), 
     push_words(image, &words)
 }
 
-/// Puts two sections of names at the end: the ids by number, and the numbers rising by id.
-fn push_names(alloc: Global, image: &mut Vec<u8>, ids: &[IdNumber]) -> Result<(), Memory>
+/// The words of the names of some ids, in a form that has room for them.
+fn names_in(alloc: Global, form: Form, ids: &[IdNumber]) -> Result<NameWords, Memory>
     requires few { length ids.now ≤ 16777216 }
-    requires names { AreDistinctIds ids.now }
-    ensures written { OnOk result ((number : ℕ) → Written image.old.items image.new.items (with_names number ids.now)) }
-    ensures right { OnOk result (name_fault ids.now (order_of ids.now) ≡ None) }
+    requires names { AreDistinctIds (2 ^ id_bits (number_of form)) ids.now }
+    ensures { IfOk result (λ words. HoldNames (number_of form) ids.now words) }
 {
-    let names = id_names::make(alloc, ids)?;
-    push_words(image, &names.ids)?;
-    push_words(image, &names.order)
+    id_names::make(alloc, ids, form.low_width(ids.len() as u128))
+}
+
+/// The words of all names, which are made before the header, since it has the numbers of their back pointers.
+fn all_names(alloc: Global, form: Form, parts: &ImageParts) -> Result<AllNames, Memory>
+    requires whole { IsTrue (is_whole (contents_of_parts parts.now)) }
+    requires room { IsTrue (has_room_for (number_of form) (contents_of_parts parts.now)) }
+    ensures { IfOk result (λ names. HoldAllNames (number_of form) (contents_of_parts parts.now) names) }
+{
+    Ok(AllNames {
+        nodes: names_in(alloc, form, &parts.nodes)?,
+        edges: names_in(alloc, form, &parts.edges)?,
+        faces: names_in(alloc, form, &parts.faces)?,
+        regions: names_in(alloc, form, &parts.regions)?,
+    })
+}
+
+/// Puts the seven sections of names at the end.
+fn push_names(image: &mut Vec<u8>, names: NameWords) -> Result<(), Memory>
+    ensures { OnOk result ((form number : ℕ) (ids : List ℕ) → HoldNames form ids names → Written image.old.items image.new.items (with_names form number ids)) }
+{
+    push_words(image, &names.high)?;
+    push_words(image, &names.high_counts)?;
+    push_words(image, &names.lows)?;
+    push_words(image, &names.places)?;
+    push_words(image, &names.marks)?;
+    push_words(image, &names.mark_counts)?;
+    push_words(image, &names.back)
 }
 
 /// Puts three sections of parentheses at the end: their bits, the counts of these, and their tree.
@@ -131,46 +166,56 @@ fn push_code(alloc: Global, image: &mut Vec<u8>, parts: &ImageParts) -> Result<(
     push_words(image, &code.starts)
 }
 
-/// Puts all sections at the end.
-fn push_sections(alloc: Global, image: &mut Vec<u8>, parts: &ImageParts) -> Result<(), Memory>
+/// Puts all sections at the end. The words of names are let go one class after another.
+fn push_sections(
+    alloc: Global,
+    image: &mut Vec<u8>,
+    parts: &ImageParts,
+    names: AllNames,
+) -> Result<(), Memory>
     requires walk { length parts.now.tree.items ≡ length parts.now.first.items }
     requires whole { IsTrue (is_whole (contents_of_parts parts.now)) }
-    ensures written { OnOk result (Written image.old.items image.new.items (filled (contents_of_parts parts.now))) }
-    ensures ordered { OnOk result (AreOrdered (contents_of_parts parts.now)) }
+    ensures { OnOk result ((form : ℕ) → HoldAllNames form (contents_of_parts parts.now) names → Written image.old.items image.new.items (filled form (contents_of_parts parts.now))) }
 {
     push_code(alloc, image, parts)?;
     push_bits(alloc, image, &parts.forward)?;
-    push_names(alloc, image, &parts.nodes)?;
-    push_names(alloc, image, &parts.edges)?;
-    push_names(alloc, image, &parts.faces)?;
+    push_names(image, names.nodes)?;
+    push_names(image, names.edges)?;
+    push_names(image, names.faces)?;
     push_fields(alloc, image, &parts.places)?;
     push_fields(alloc, image, &parts.place_order)?;
     push_fields(alloc, image, &parts.isolated)?;
     push_parens(alloc, image, &parts.region_bits)?;
-    push_names(alloc, image, &parts.regions)?;
+    push_names(image, names.regions)?;
     push_fields(alloc, image, &parts.members)
 }
 
-/// The counts of parts.
-fn header_of(parts: &ImageParts) -> Header
-    requires { IsTrue (is_whole (contents_of_parts parts.now)) }
-    ensures counts { counts_of_header result ≡ counts_of_contents (contents_of_parts parts.now) }
+/// The header of parts with these names.
+fn header_of(form: Form, parts: &ImageParts, names: &AllNames) -> Header
+    requires whole { IsTrue (is_whole (contents_of_parts parts.now)) }
+    requires names { HoldAllNames (number_of form) (contents_of_parts parts.now) names.now }
+    ensures counts { counts_of_header result ≡ counts_of_contents (number_of form) (contents_of_parts parts.now) }
     ensures few { 8 * file_words (counts_of_header result) < 2 ^ 32 }
 {
     let edges = parts.edges.len() as u64;
     Header {
+        form,
         edges,
         tree_edges: edges - parts.faces.len() as u64,
         components: parts.places.len() as u64,
         isolated: parts.isolated.len() as u64,
         regions: parts.regions.len() as u64,
+        node_back: u64::from(names.nodes.marked),
+        edge_back: u64::from(names.edges.marked),
+        face_back: u64::from(names.faces.marked),
+        region_back: u64::from(names.regions.marked),
     }
 }
 
 /// The header with 0 in place of the digest, in memory for the whole image.
 fn begun(alloc: Global, header: Header) -> Result<Vec<u8>, Memory>
     requires { 8 * file_words (counts_of_header header) < 2 ^ 32 }
-    ensures { IfOk result (λ image. image.items ≡ bytes_of (magic ∷ 0 ∷ 0 ∷ 0 ∷ 0 ∷ 0 ∷ header.edges ∷ header.tree_edges ∷ header.components ∷ header.isolated ∷ header.regions ∷ [])) }
+    ensures { IfOk result (λ image. image.items ≡ bytes_of (blank_header (counts_of_header header))) }
 {
     let Ok(mut image) = Vec::with_capacity(alloc, 8 * header.file_words() as usize) else {
         return Err(Memory);
@@ -179,7 +224,7 @@ fn begun(alloc: Global, header: Header) -> Result<Vec<u8>, Memory>
         &mut image,
         &[
             MAGIC,
-            0,
+            header.form.number(),
             0,
             0,
             0,
@@ -189,6 +234,10 @@ fn begun(alloc: Global, header: Header) -> Result<Vec<u8>, Memory>
             header.components,
             header.isolated,
             header.regions,
+            header.node_back,
+            header.edge_back,
+            header.face_back,
+            header.region_back,
         ],
     )?;
     Ok(image)
@@ -203,16 +252,42 @@ fn seal(image: &mut Vec<u8>)
     image[16..48].copy_from_slice(&digest);
 }
 
-/// The file that holds these parts. Its bytes are a function of what the parts hold.
+/// The file of a form that holds these parts.
+fn write(alloc: Global, form: Form, parts: &ImageParts) -> Result<Vec<u8>, Memory>
+    requires walk { length parts.now.tree.items ≡ length parts.now.first.items }
+    requires whole { IsTrue (is_whole (contents_of_parts parts.now)) }
+    requires room { IsTrue (has_room_for (number_of form) (contents_of_parts parts.now)) }
+    ensures lawful { IfOk result (λ image. IsTrue (is_lawful image.items)) }
+    ensures contents { IfOk result (λ image. contents_of (words_of image.items) ≡ contents_of_parts parts.now) }
+    ensures image { IfOk result (λ image. image.items ≡ image_of (number_of form) (contents_of_parts parts.now)) }
+{
+    let names = all_names(alloc, form, parts)?;
+    let mut image = begun(alloc, header_of(form, parts, &names))?;
+    push_sections(alloc, &mut image, parts, names)?;
+    seal(&mut image);
+    Ok(image)
+}
+
+/// The file of form 2 that holds these parts. Its bytes are a function of what the parts hold.
 pub fn write_image(alloc: Global, parts: &ImageParts) -> Result<Vec<u8>, Memory>
     requires walk { length parts.now.tree.items ≡ length parts.now.first.items }
     requires whole { IsTrue (is_whole (contents_of_parts parts.now)) }
     ensures lawful { IfOk result (λ image. IsTrue (is_lawful image.items)) }
     ensures contents { IfOk result (λ image. contents_of (words_of image.items) ≡ contents_of_parts parts.now) }
-    ensures image { IfOk result (λ image. image.items ≡ image_of (contents_of_parts parts.now)) }
+    ensures image { IfOk result (λ image. image.items ≡ image_of 2 (contents_of_parts parts.now)) }
 {
-    let mut image = begun(alloc, header_of(parts))?;
-    push_sections(alloc, &mut image, parts)?;
-    seal(&mut image);
-    Ok(image)
+    write(alloc, Form::Two, parts)
+}
+
+/// The file of form 1 that holds these parts, whose ids are at most 2,147,483,647. Its bytes are a function of what the
+/// parts hold.
+pub fn write_old_image(alloc: Global, parts: &ImageParts) -> Result<Vec<u8>, Memory>
+    requires walk { length parts.now.tree.items ≡ length parts.now.first.items }
+    requires whole { IsTrue (is_whole (contents_of_parts parts.now)) }
+    requires room { IsTrue (has_room_for 1 (contents_of_parts parts.now)) }
+    ensures lawful { IfOk result (λ image. IsTrue (is_lawful image.items)) }
+    ensures contents { IfOk result (λ image. contents_of (words_of image.items) ≡ contents_of_parts parts.now) }
+    ensures image { IfOk result (λ image. image.items ≡ image_of 1 (contents_of_parts parts.now)) }
+{
+    write(alloc, Form::One, parts)
 }

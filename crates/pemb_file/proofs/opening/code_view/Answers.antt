@@ -1,7 +1,9 @@
-use Rattle.std.proofs.Common.{◌≡◌, true, ap, sym, ◌∙◌, subst}
+use Rattle.std.proofs.Common.{refl, ◌≡◌, true, ap, sym, ◌∙◌, subst}
 use Rattle.bit_words.specs.WordView.{words_of as view_words}
 use Rattle.rank_select.specs.Counts.{counts_of}
 use Rattle.code_laws.specs.SeqFault.{is_sound}
+use Rattle.file_laws.specs.Layout.{counts_in}
+use Rattle.pemb_file.proofs.KindLaws.{directory-width}
 use Rattle.pemb_file.proofs.CodeParts.{code-is}
 use Rattle.pemb_file.proofs.Rights.{rights, tree_parens, dual_parens}
 use Rattle.pemb_file.proofs.opening.code_view.Goals as goal
@@ -25,3 +27,6 @@ new-requires-2-clause-sound c =
 pub returns : goal.returns
 returns c =
     c.new-2.ensures ∙ code-is (view_words c.args.image.now.words) _ _ _ _ (c.new.ensures ∙ c.bits.ensures.bits) c.paren_view.ensures c.paren_view-2.ensures c.fields-2.ensures.fields
+
+pub new-requires-clause-width : goal.new-requires-clause-width
+new-requires-clause-width c = c.fields.ensures.width ∙ directory-width (counts_in (view_words c.args.image.now.words)) 2 refl

@@ -1,7 +1,7 @@
 use Rattle.std.proofs.Common.{arith}
 use Rattle.std.proofs.lemmas.Result.{err_from_is_err_and}
 use Rattle.bit_words.specs.WordView.{words_of as view_words}
-use Rattle.pemb_file.proofs.Opened.{names_fit, at-sequence, at-directories, at-names, at-placed, at-regions, at-padding, whole_content}
+use Rattle.pemb_file.proofs.Opened.{at-sequence, at-directories, at-names, at-placed, at-regions, at-padding, whole_content}
 use Rattle.file_laws.specs.Layout.{counts_in}
 use Rattle.file_laws.proofs.Sections.{counts_fit}
 use Rattle.pemb_file.proofs.opening.content.Goals as goal
@@ -25,7 +25,7 @@ pub returns-in_err-check_padding-clause-fault : goal.returns-in_err-check_paddin
 returns-in_err-check_padding-clause-fault g c = let p = err_from_is_err_and c.from_residual-in_err-check_padding.result c.from_residual-in_err-check_padding.ensures.1 in rw (p.1, p.2) (at-padding (view_words c.args.image.now.words) _ c.in_ok-check_code.ensures.fault c.in_ok-check_directories.ensures.fault c.in_ok-check_all_names.ensures.fault c.in_ok-check_placed.ensures.fault c.in_ok-check_regions.ensures.fault c.in_err-check_padding.ensures.fault)
 
 pub check_placed-requires-clause-names : goal.check_placed-requires-clause-names
-check_placed-requires-clause-names g c = (names_fit (view_words c.args.image.now.words) c.in_ok-check_all_names.ensures.fault).edges
+check_placed-requires-clause-names g c = c.in_ok-check_all_names.ensures.fault
 
 pub returns-clause-fault : goal.returns-clause-fault
 returns-clause-fault g c = at-padding (view_words c.args.image.now.words) _ c.in_ok-check_code.ensures.fault c.in_ok-check_directories.ensures.fault c.in_ok-check_all_names.ensures.fault c.in_ok-check_placed.ensures.fault c.in_ok-check_regions.ensures.fault c.in_ok-check_padding.ensures.fault

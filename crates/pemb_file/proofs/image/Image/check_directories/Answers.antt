@@ -7,10 +7,10 @@ use Rattle.bit_words.specs.declared.wrong_entry.WrongEntry.{WrongEntry}
 use Rattle.rank_select.specs.Counts.{counts_of}
 use Rattle.min_max_tree.specs.Tree.{nodes_of}
 use Rattle.file_laws.specs.Layout.{counts_in, bits_at, fields_at, part}
-use Rattle.file_laws.specs.Contents.{contents_of}
+use Rattle.file_laws.specs.Held.{contents_of}
 use Rattle.file_laws.specs.Faults.{directories_fault}
 use Rattle.file_laws.specs.declared.fault.FileFault.TheVariants as fault
-use Rattle.pemb_file.proofs.SectionTable.{counted}
+use Rattle.pemb_file.proofs.KindLaws.{counted}
 use Rattle.pemb_file.proofs.FrontFaults.{first-some, first-none, first-last}
 use Rattle.pemb_file.proofs.Wrong.{some-finds}
 use Rattle.pemb_file.proofs.image.Image.check_directories.Goals as goal

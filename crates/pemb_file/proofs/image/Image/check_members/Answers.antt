@@ -2,7 +2,7 @@ use Rattle.std.proofs.Common.{arith, ap}
 use Rattle.bit_words.specs.WordView.{words_of}
 use Rattle.bit_words.specs.PackedView.{fields_of}
 use Rattle.file_laws.specs.Layout.{HeaderCounts, counts_in}
-use Rattle.pemb_file.proofs.SectionTable.{counted}
+use Rattle.pemb_file.proofs.KindLaws.{counted}
 use Rattle.pemb_file.proofs.Members.{wrong-member, right-members}
 use Rattle.pemb_file.proofs.image.Image.check_members.Goals as goal
 

@@ -17,8 +17,8 @@ returns-clause-fault g c = right-starts (contents_of_placed c.args.self.now) (λ
 pub loop-component-preserved : goal.loop-component-preserved
 loop-component-preserved g c =
     let k = contents_of_placed c.args.self.now in
-    let x = 10 * digits (length k.code.a + 2) + 139 in
-    let y = 16 * digits (length k.code.a + 2) + 123 in
+    let x = 13 * digits (length k.code.a + 2) + 157 in
+    let y = 19 * digits (length k.code.a + 2) + 141 in
     let n = c.loop-component.component in
     let laid = (sound_parts k.code c.args.self.now.code.sound).laid in
     let up = rises k.code laid n (omega (arith, c.count-component-end.ensures, c.args.self.now.fits.places)) in
@@ -28,8 +28,8 @@ loop-component-preserved g c =
 pub returns-then-not-is_smallest-clause-cost : goal.returns-then-not-is_smallest-clause-cost
 returns-then-not-is_smallest-clause-cost g c =
     let k = contents_of_placed c.args.self.now in
-    let x = 10 * digits (length k.code.a + 2) + 139 in
-    let y = 16 * digits (length k.code.a + 2) + 123 in
+    let x = 13 * digits (length k.code.a + 2) + 157 in
+    let y = 19 * digits (length k.code.a + 2) + 141 in
     let n = c.loop-component.component in
     let laid = (sound_parts k.code c.args.self.now.code.sound).laid in
     let up = rises k.code laid n (omega (arith, c.count-component-end.ensures, c.args.self.now.fits.places)) in
@@ -42,8 +42,8 @@ returns-then-not-is_smallest-clause-cost g c =
 pub returns-clause-cost : goal.returns-clause-cost
 returns-clause-cost g c =
     let k = contents_of_placed c.args.self.now in
-    let x = 10 * digits (length k.code.a + 2) + 139 in
-    let y = 16 * digits (length k.code.a + 2) + 123 in
+    let x = 13 * digits (length k.code.a + 2) + 157 in
+    let y = 19 * digits (length k.code.a + 2) + 141 in
     let n = c.loop-component.component in
     let laid = (sound_parts k.code c.args.self.now.code.sound).laid in
     let e : n ≡ length k.places = omega (arith, c.count-component-end.ensures) in

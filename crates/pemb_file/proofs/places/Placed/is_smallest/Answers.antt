@@ -1,5 +1,5 @@
 use Rattle.std.proofs.Math.Facts.{to_z-of_z}
-use Rattle.std.proofs.Common.{w32, SFits, rules, ◌≡◌, ◌&&◌, ◌≤◌, ◌+◌, ◌-◌, ◌*◌, length, inl, inr, arith, ap, sym, ◌∙◌, subst, false, ℕ}
+use Rattle.std.proofs.Common.{w64, SFits, rules, ◌≡◌, ◌&&◌, ◌≤◌, ◌+◌, ◌-◌, ◌*◌, length, inl, inr, arith, ap, sym, ◌∙◌, subst, false, ℕ}
 use Rattle.std.proofs.lemmas.Bool.{cases_eq}
 use Rattle.turan_code.specs.TuranView.{code_of_view}
 use Rattle.bit_words.specs.Digits.{digits}
@@ -26,7 +26,7 @@ is_smaller-requires g c =
 pub returns-then-is_smaller-clause-smallest : goal.returns-then-is_smaller-clause-smallest
 returns-then-is_smaller-clause-smallest g c =
     let k = contents_of_placed c.args.self.now in
-    let f : SFits w32 c.signed_at-start.result = search rules in
+    let f : SFits w64 c.signed_at-start.result = search rules in
     let same = to_z-of_z f ∙ c.signed_at-start.ensures.value ∙ ap (signed_at k) c.start-from.ensures.start in
     let here = c.is_smaller.ensures.smaller ∙ ap (λ d. is_outer c.args.component (ring_of k.code c.loop-p.p) && comes_before (signed_at k c.loop-p.p) d) same in
     let b = end-within (code_of_view c.args.self.now.code) c.args.self.now.code.sound c.args.component c.requires in
@@ -35,7 +35,7 @@ returns-then-is_smaller-clause-smallest g c =
 pub loop-p-preserved : goal.loop-p-preserved
 loop-p-preserved g c =
     let k = contents_of_placed c.args.self.now in
-    let f : SFits w32 c.signed_at-start.result = search rules in
+    let f : SFits w64 c.signed_at-start.result = search rules in
     let same = to_z-of_z f ∙ c.signed_at-start.ensures.value ∙ ap (signed_at k) c.start-from.ensures.start in
     let here = c.is_smaller.ensures.smaller ∙ ap (λ d. is_outer c.args.component (ring_of k.code c.loop-p.p) && comes_before (signed_at k c.loop-p.p) d) same in
     record {
@@ -45,7 +45,7 @@ loop-p-preserved g c =
       ];
       grows = omega arith;
       cost =
-          let x = 10 * digits (length k.code.a + 2) + 139 in
+          let x = 13 * digits (length k.code.a + 2) + 157 in
           let e : c.loop-p.p + 1 - c.start-from.result ≡ c.loop-p.p - c.start-from.result + 1 = omega arith in
           let m : (c.loop-p.p + 1 - c.start-from.result) * x ≡ (c.loop-p.p - c.start-from.result) * x + x = ap (λ n. n * x) e ∙ omega arith in
           omega (arith, m, c.loop-p.invariant.cost, c.is_smaller.ensures.cost);
@@ -59,7 +59,7 @@ returns-clause-smallest g c =
 pub returns-then-is_smaller-clause-cost : goal.returns-then-is_smaller-clause-cost
 returns-then-is_smaller-clause-cost g c =
     let k = contents_of_placed c.args.self.now in
-    let x = 10 * digits (length k.code.a + 2) + 139 in
+    let x = 13 * digits (length k.code.a + 2) + 157 in
     let from = start_of k.code c.args.component in
     let to = end_of k.code c.args.component in
     let l : c.loop-p.p + 1 - c.start-from.result ≤ to - from = omega (arith, c.start-from.ensures.start, c.end-to.ensures.end) in
@@ -71,7 +71,7 @@ returns-then-is_smaller-clause-cost g c =
 pub returns-clause-cost : goal.returns-clause-cost
 returns-clause-cost g c =
     let k = contents_of_placed c.args.self.now in
-    let x = 10 * digits (length k.code.a + 2) + 139 in
+    let x = 13 * digits (length k.code.a + 2) + 157 in
     let from = start_of k.code c.args.component in
     let to = end_of k.code c.args.component in
     let below = rises k.code (sound_parts k.code c.args.self.now.code.sound).laid c.args.component c.requires in

@@ -1,5 +1,5 @@
 use Rattle.std.proofs.Math.Facts.{to_z-of_z}
-use Rattle.std.proofs.Common.{w32, SFits, to_z, of_z, rules, arith, sym, ap, ◌∙◌}
+use Rattle.std.proofs.Common.{w64, SFits, to_z, of_z, rules, arith, sym, ap, ◌∙◌}
 use Rattle.turan_code.specs.TuranView.{code_of_view}
 use Rattle.code_laws.specs.Code.{start_of}
 use Rattle.topo_base.specs.SignedEdge.{comes_before}
@@ -23,7 +23,7 @@ returns-clause-precedes g c =
     let k = contents_of_placed c.args.self.now in
     let a = c.signed_at.ensures.value ∙ ap (signed_at k) c.start-start.ensures.start in
     let b = c.signed_at-2.ensures.value ∙ ap (signed_at k) c.start-next.ensures.start in
-    let f : SFits w32 c.signed_at.result = search rules in
-    let h : SFits w32 c.signed_at-2.result = search rules in
-    c.comes_before.ensures ∙ ap (λ d. comes_before d (to_z w32 (of_z w32 c.signed_at-2.result))) (to_z-of_z f ∙ a) ∙ ap (comes_before (signed_at k (start_of k.code c.args.i))) (to_z-of_z h ∙ b)
+    let f : SFits w64 c.signed_at.result = search rules in
+    let h : SFits w64 c.signed_at-2.result = search rules in
+    c.comes_before.ensures ∙ ap (λ d. comes_before d (to_z w64 (of_z w64 c.signed_at-2.result))) (to_z-of_z f ∙ a) ∙ ap (comes_before (signed_at k (start_of k.code c.args.i))) (to_z-of_z h ∙ b)
     ∙ sym (precedes-same k c.args.i c.args.j c.field-p.result c.field-q.result c.field-p.ensures.field c.field-q.ensures.field c.if-p-q.false)

@@ -1,4 +1,5 @@
-use Rattle.std.proofs.Common.{◌≤◌, ◌+◌, ◌*◌}
+use Rattle.std.proofs.Common.{◌≤◌, ◌+◌, ◌*◌, length}
+use Rattle.bit_words.specs.Digits.{digits}
 use Rattle.file_laws.specs.Faults.{is_isolated}
 use Rattle.pemb_file.specs.PlacedView.{contents_of_placed}
 use Rattle.pemb_file.proofs.Nots.{PassBelow}
@@ -8,5 +9,5 @@ abbrev pub invariant-loop-j : goal.invariant-loop-j
 invariant-loop-j g l = record {
   pass : PassBelow (is_isolated (contents_of_placed l.self)) l.j;
   grows : l.initial.steps ≤ l.steps;
-  cost : l.steps ≤ l.initial.steps + l.j * (8);
+  cost : l.steps ≤ l.initial.steps + l.j * (6 * digits (length (contents_of_placed l.self).nodes + 2) + 44);
 }

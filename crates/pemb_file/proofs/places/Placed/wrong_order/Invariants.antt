@@ -9,5 +9,5 @@ abbrev pub invariant-loop-j : goal.invariant-loop-j
 invariant-loop-j g l = record {
   pass : PassBelow (is_ordered (contents_of_placed l.self)) l.j;
   grows : l.initial.steps ≤ l.steps;
-  cost : l.steps ≤ l.initial.steps + l.j * (20 * digits (length (contents_of_placed l.self).code.a + 2) + 206);
+  cost : l.steps ≤ l.initial.steps + l.j * (26 * digits (length (contents_of_placed l.self).code.a + 2) + 242);
 }

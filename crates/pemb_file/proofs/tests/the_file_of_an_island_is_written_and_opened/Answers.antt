@@ -1,8 +1,0 @@
-use Rattle.std.proofs.Common.{sym, subst, IsTrue}
-use Rattle.file_laws.specs.Contents.{Contents}
-use Rattle.file_laws.specs.Lawful.{is_whole}
-use Rattle.pemb_file.proofs.WorkedParts.{plain_whole}
-use Rattle.pemb_file.proofs.tests.the_file_of_an_island_is_written_and_opened.Goals as goal
-
-pub write_image-requires-clause-whole : goal.write_image-requires-clause-whole
-write_image-requires-clause-whole g c = subst (λ (k : Contents). IsTrue (is_whole k)) (sym c.in_ok-parts.ensures.parts) plain_whole
