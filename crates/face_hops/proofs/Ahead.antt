@@ -12,12 +12,13 @@ use Rattle.file_laws.specs.MapOfFile.{signed_at, face_at_place}
 use Rattle.file_laws.specs.Lawful.{is_whole}
 use Rattle.navigate.specs.Bound.{map_with}
 use Rattle.navigate.specs.Beside.{place_across, others, adjacent_places}
+use Rattle.navigate.proofs.Facts.{few_faces}
 use Rattle.face_hops.specs.Distances.{as_number, AreDistances}
 use Rattle.face_hops.specs.Way.{GoesOnAt}
 use Rattle.face_hops.proofs.PathLaws.{within-step, distance_is, distance_first}
 use Rattle.face_hops.proofs.Ways.{goes_on, nearest, nearest_of, hops_at, hops_more}
 use Rattle.face_hops.proofs.Across.{named_across, beside_or_own}
-use Rattle.face_hops.proofs.MapFacts.{beside-known, all_low, as_many, few_faces}
+use Rattle.face_hops.proofs.MapFacts.{beside-known, all_low, as_many}
 
 -- finding
 

@@ -29,14 +29,14 @@ into_flat part (y ∷ ys) n x h k = elim (or_cases (same_edge n y) (has_edge ys 
   | inr more ↦ in_back same_edges (part y) (flat_map part ys) x (into_flat part ys n x more k)
 ]
 
-from_flat : (part : ℤ → List ℤ) (ns : List ℤ) (x : ℤ) → has_edge (flat_map part ns) x ≡ true → (n : ℤ) × (has_edge ns n ≡ true) × (has_edge (part n) x ≡ true)
+pub from_flat : (part : ℤ → List ℤ) (ns : List ℤ) (x : ℤ) → has_edge (flat_map part ns) x ≡ true → (n : ℤ) × (has_edge ns n ≡ true) × (has_edge (part n) x ≡ true)
 from_flat part [] x h = absurd (both_ways false refl h)
 from_flat part (y ∷ ys) x h = elim (in_either same_edges (part y) (flat_map part ys) x h) [
   | inl here ↦ (y, or_left _ _ (same_self y), here)
   | inr more ↦ let there = from_flat part ys x more in (there.0, or_right _ _ there.1, there.2)
 ]
 
-found : (p : ℤ → Bool) (xs : List ℤ) (x : ℤ) → find p xs ≡ Some x → (has_edge xs x ≡ true) × (p x ≡ true)
+pub found : (p : ℤ → Bool) (xs : List ℤ) (x : ℤ) → find p xs ≡ Some x → (has_edge xs x ≡ true) × (p x ≡ true)
 found p [] x h = cc
 found p (y ∷ ys) x h = elim (cases_Bool (p y)) [
   | inl e ↦

@@ -9,3 +9,5 @@ pub mod Rounding
 pub mod Across
 pub mod Ahead
 pub mod Stepping
+pub mod FaceLengths
+pub mod Paid

@@ -30,7 +30,7 @@ module _ (c : Contents) (h : is_whole c ≡ true) where
   abbrev m : PlaneMap
   m = map_with c
 
-  rows_labelled : IsLabelledRotation (rows_of_contents c)
+  pub rows_labelled : IsLabelledRotation (rows_of_contents c)
   rows_labelled = labelled_rotation_of (rows_of_contents c) (range_of c h) (rotation_of c h) (labelled_of c h)
 
   faces_there : has_faces m ≡ true
@@ -66,9 +66,6 @@ module _ (c : Contents) (h : is_whole c ≡ true) where
         let is : face_at_place c p ≡ slice_index c.faces (p - 1) = rw (ne_eqb p 0 n) refl in
         or_right (face_at_place c p == 0) (has m.faces (face_at_place c p)) (subst (λ x. has m.faces x ≡ true) (sym is) (face_there c (w c h) (p - 1) (omega (arith, n, low))))
   ]
-
-  pub few_faces : length c.faces ≤ 16777216
-  few_faces = let s = (w c h).sizes.faces in let few = (w c h).sizes.few_edges in omega (arith, s, few)
 
   across-low : (p : ℕ) → p < length c.code.a → place_across c p ≤ length c.faces
   unfolding place_across

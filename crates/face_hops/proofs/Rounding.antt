@@ -139,3 +139,12 @@ module _ (c : Contents) (from : ℕ) (beside-sym : (f x : ℕ) → has (adjacent
   pub end : (head place number : ℕ) (ds qs : List ℕ) (tail : ℕ) → IsRounding c from head place number ds qs tail [] → IsSearch c from (slice_index ds) (slice_index qs) (head + 1) tail
   end head place number ds qs tail r =
       round c from beside-sym (slice_index ds) (slice_index qs) head tail r.search r.more (subst (λ x. IsHalfRound c (slice_index ds) x []) (sym r.at) r.half)
+
+-- what stands in the queue stays
+pub queue_kept : (ds qs qs' : List ℕ) (tail across i : ℕ) → qs' ≡ queue_with ds qs tail across → i < tail → slice_index qs' i ≡ slice_index qs i
+queue_kept ds qs qs' tail across i e l = elim (cases_Bool (slice_index ds across == 0)) [
+  | inl t ↦
+      let is : qs' ≡ slice_set qs tail across = rw t at e in
+      ap (λ xs. slice_index xs i) is ∙ get_or-set_other qs tail i across 0 (λ same. absurd (omega (arith, same, l)))
+  | inr f ↦ let is : qs' ≡ qs = rw f at e in ap (λ xs. slice_index xs i) is
+]

@@ -32,11 +32,11 @@ zeros_long (suc n) = ap suc (zeros_long n)
 
 -- the first of a list that a function gives
 
-abbrev firsts : (ℕ → ℕ) → ℕ → List ℕ
+abbrev pub firsts : (ℕ → ℕ) → ℕ → List ℕ
 firsts f zero = []
 firsts f (suc n) = f n ∷ firsts f n
 
-firsts-length : (f : ℕ → ℕ) (n : ℕ) → length (firsts f n) ≡ n
+pub firsts-length : (f : ℕ → ℕ) (n : ℕ) → length (firsts f n) ≡ n
 firsts-length f zero = refl
 firsts-length f (suc n) = ap suc (firsts-length f n)
 
@@ -47,7 +47,7 @@ firsts-has f (suc n) x h = elim (or_cases (x == f n) (has (firsts f n) x) h) [
   | inr more ↦ let r = firsts-has f n x more in let low = r.1 in (r.0, omega (arith, low), r.2)
 ]
 
-firsts-apart : (f : ℕ → ℕ) (n : ℕ) → ((i j : ℕ) → i < n → j < n → f i ≡ f j → i ≡ j) → is_distinct (firsts f n) ≡ true
+pub firsts-apart : (f : ℕ → ℕ) (n : ℕ) → ((i j : ℕ) → i < n → j < n → f i ≡ f j → i ≡ j) → is_distinct (firsts f n) ≡ true
 firsts-apart f zero one = refl
 firsts-apart f (suc n) one =
     let new : has (firsts f n) (f n) ≡ false

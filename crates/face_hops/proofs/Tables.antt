@@ -1,10 +1,9 @@
 -- The laws on paths, of consistent tables.
-use Rattle.std.specs.Prelude.{IsTrue}
-use Rattle.std.proofs.Common.{◌≡◌, ℕ, ◌+◌, ◌≤◌, Bool, true, ◌&&◌, length, refl, sym, ap, ◌∙◌, subst, arith, Some}
+use Rattle.std.proofs.Common.{◌≡◌, ℕ, ◌+◌, ◌≤◌, true, length, sym, subst, arith, Some}
 use Rattle.std.proofs.lemmas.Bool.{and_parts}
 use Rattle.plane_model.specs.Rows.{Rows}
 use Rattle.plane_model.specs.Sets.{has, is_distinct}
-use Rattle.plane_model.specs.PlaneMap.{PlaneMap, map_of}
+use Rattle.plane_model.specs.PlaneMap.{map_of}
 use Rattle.plane_model.specs.InRange.{is_in_range}
 use Rattle.plane_model.specs.Consistent.{is_consistent}
 use Rattle.plane_model.specs.Rotation.{is_face, has_faces, is_rotation_system}
@@ -17,7 +16,7 @@ use Rattle.placement_laws.specs.Placing.{IsLabelledRotation}
 use Rattle.placement_laws.proofs.Tables.{labelled_rotation_of}
 use Rattle.face_hops.proofs.Beside.{adjacent-sym, adjacent_known}
 use Rattle.face_hops.proofs.Joined.{faces_joined}
-use Rattle.face_hops.proofs.Ways.{IsNearest, IsWay, nearest, way, few_moves, hops_at}
+use Rattle.face_hops.proofs.Ways.{IsWay, nearest, way, few_moves, hops_at}
 
 -- what consistent tables have of it
 record Parts (t : Rows) : Type 0 where

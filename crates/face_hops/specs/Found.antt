@@ -20,6 +20,11 @@ IfShort (came.Walk w) P = Unit {0}
 IfShort came.Unknown P = Unit {0}
 IfShort (came.Short s) P = P s
 
+abbrev pub IfUnknown : found.Found → Type 0 → Type 0
+IfUnknown (came.Walk w) P = Unit {0}
+IfUnknown came.Unknown P = P
+IfUnknown (came.Short s) P = Unit {0}
+
 abbrev pub IfWalk : found.Found → (HopWalk → Type 0) → Type 0
 IfWalk (came.Walk w) P = P w
 IfWalk came.Unknown P = Unit {0}

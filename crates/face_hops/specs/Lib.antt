@@ -1,3 +1,4 @@
+pub mod Prices
 pub mod Distances
 pub mod Search
 pub mod Searching

@@ -4,6 +4,7 @@ ghost use Rattle.std.specs.Prelude.{◌≡◌, ◌<◌, ◌≤◌, ◌+◌, ◌*
 ghost use Rattle.scratch_region.specs.Numbers.{numbers_of};
 ghost use Rattle.pemb_file.specs.Served.{contents_of_view};
 ghost use Rattle.face_hops.specs.Distances.{AreDistances};
+ghost use Rattle.face_hops.specs.Prices.{search_price};
 ghost use Rattle.face_hops.specs.Search.{numbers_with, queue_with, tail_with};
 
 use bit_words::Steps;
@@ -51,10 +52,12 @@ fn reach(
 }
 
 impl<'a, 'r> Search<'a, 'r> {
-    ghost use Rattle.std.specs.Prelude.{◌≡◌, ◌<◌, ◌≤◌, ◌+◌, ◌*◌, ℕ, List, length, replicate, slice_index, slice_set};
+    ghost use Rattle.std.specs.Prelude.{◌≡◌, ◌<◌, ◌≤◌, ◌+◌, ◌*◌, ℕ, List, [], ◌∷◌, length, replicate, slice_index, slice_set};
     ghost use Rattle.scratch_region.specs.Numbers.{numbers_of};
+    ghost use Rattle.file_laws.specs.MapOfFile.{face_at_place};
     ghost use Rattle.pemb_file.specs.Served.{contents_of_view};
     ghost use Rattle.face_hops.specs.Distances.{AreDistances};
+    ghost use Rattle.face_hops.specs.Prices.{rounds_price, search_price};
     ghost use Rattle.face_hops.specs.Searching.{IsSearching};
 
     /// The search at its beginning: the face at the place was reached, and none was gone round.
@@ -92,7 +95,9 @@ impl<'a, 'r> Search<'a, 'r> {
         ensures served { self.new.served ≡ self.old.served }
         ensures from { self.new.from ≡ self.old.from }
         ensures head { self.new.head ≡ self.old.head + 1 }
+        ensures kept { (i : ℕ) → i ≤ self.old.head → slice_index (numbers_of self.new.queue) i ≡ slice_index (numbers_of self.old.queue) i }
         ensures grows { steps.old ≤ steps.new }
+        ensures paid { steps.new ≤ steps.old + rounds_price (contents_of_view self.old.served) (face_at_place (contents_of_view self.old.served) (slice_index (numbers_of self.old.queue) self.old.head) ∷ []) }
     {
         let place = self.queue.get(self.head) as usize;
         let number = self.numbers.get(place) + 1;
@@ -115,6 +120,7 @@ impl<'a, 'r> Search<'a, 'r> {
         requires { IsSearching self }
         ensures distances { AreDistances (contents_of_view self.entry.served) self.entry.from (numbers_of result) }
         ensures grows { steps.old ≤ steps.new }
+        ensures paid { steps.new ≤ steps.old + search_price (contents_of_view self.entry.served) }
     {
         while self.head < self.tail {
             self.go_round(steps);
@@ -137,6 +143,7 @@ pub(crate) fn distances_from<'r, C: Ledger>(
     requires queue { numbers_of queue ≡ replicate (length (contents_of_view served).faces + 1) 0 }
     ensures distances { AreDistances (contents_of_view served.entry) from (numbers_of result) }
     ensures grows { steps.old ≤ steps.new }
+    ensures paid { steps.new ≤ steps.old + search_price (contents_of_view served.entry) }
 {
     Search::begin(served, from, numbers, queue).finish(steps)
 }

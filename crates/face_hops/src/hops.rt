@@ -6,9 +6,10 @@ ghost use Rattle.plane_model.specs.Hops.{hops, distance};
 ghost use Rattle.scratch_region.specs.Region.{words_left};
 ghost use Rattle.scratch_region.specs.Numbers.{numbers_of};
 ghost use Rattle.pemb_file.specs.Served.{contents_of_view};
-ghost use Rattle.navigate.specs.Bound.{served_map};
-ghost use Rattle.face_hops.specs.HopWalk.{rest, moves_of, is_begun};
-ghost use Rattle.face_hops.specs.Found.{is_short, is_walk, IfShort, IfWalk};
+ghost use Rattle.navigate.specs.Bound.{served_map, most_words};
+ghost use Rattle.face_hops.specs.HopWalk.{rest, moves_of, is_begun, allowance};
+ghost use Rattle.face_hops.specs.Prices.{most_hop_words};
+ghost use Rattle.face_hops.specs.Found.{is_short, is_walk, IfShort, IfWalk, IfUnknown};
 
 use crate::breadth::distances_from;
 use crate::found::Found;
@@ -52,6 +53,8 @@ fn walk_over<'a, 'r, C: Ledger>(
     ensures moves { IfWalk result (λ w. distance (served_map served.entry) from.0 to.0 ≡ Some (moves_of w)) }
     ensures fresh { IfWalk result (λ w. IsFalse (is_begun w)) }
     ensures grows { steps.old ≤ steps.new }
+    ensures paid { IfWalk result (λ w. steps.new + allowance w ≤ steps.old + most_hop_words (served_map served.entry)) }
+    ensures unknown { IfUnknown result (steps.new ≤ steps.old + most_words (served_map served.entry) 0 0) }
 {
     let Some(place) = place_of(served, from, steps) else {
         return Found::Unknown;
@@ -81,6 +84,9 @@ pub fn hop_walk<'a, 'r, C: Ledger>(
     ensures moves { IfWalk result (λ w. distance (served_map served.entry) from.0 to.0 ≡ Some (moves_of w)) }
     ensures fresh { IfWalk result (λ w. IsFalse (is_begun w)) }
     ensures grows { steps.old ≤ steps.new }
+    ensures paid { IfWalk result (λ w. steps.new + allowance w ≤ steps.old + most_hop_words (served_map served.entry)) }
+    ensures unknown { IfUnknown result (steps.new ≤ steps.old + most_words (served_map served.entry) 0 0) }
+    ensures free { IfShort result (λ _. steps.new ≡ steps.old) }
 {
     let count = served.faces().count() + 1;
     let left = room.left();

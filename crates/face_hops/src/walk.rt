@@ -32,14 +32,15 @@ pub struct HopWalk<'a, 'r> {
 }
 
 impl<'a, 'r> HopWalk<'a, 'r> {
-    ghost use Rattle.std.specs.Prelude.{◌≡◌, ◌<◌, ◌≤◌, ◌+◌, ◌∷◌, [], Some, length, slice_index, IsSome, IsNone, IsTrue, IsFalse, MatchOption};
+    ghost use Rattle.std.specs.Prelude.{◌≡◌, ◌<◌, ◌≤◌, ◌+◌, ◌*◌, ◌∷◌, [], Some, length, slice_index, IsSome, IsNone, IsTrue, IsFalse, MatchOption};
     ghost use Rattle.plane_model.specs.Hops.{hops, distance};
     ghost use Rattle.scratch_region.specs.Numbers.{numbers_of};
     ghost use Rattle.file_laws.specs.MapOfFile.{face_at_place};
     ghost use Rattle.pemb_file.specs.Served.{contents_of_view};
     ghost use Rattle.navigate.specs.Bound.{served_map};
     ghost use Rattle.face_hops.specs.Distances.{AreDistances};
-    ghost use Rattle.face_hops.specs.HopWalk.{rest, moves_of, is_begun};
+    ghost use Rattle.face_hops.specs.HopWalk.{rest, moves_of, is_begun, allowance};
+    ghost use Rattle.face_hops.specs.Prices.{rounds_price, name_price};
     ghost use Rattle.face_hops.specs.Way.{GoesOnAt};
 
     /// The walk from the face at one place to the one at another, over the distances from that.
@@ -55,6 +56,7 @@ impl<'a, 'r> HopWalk<'a, 'r> {
         ensures list { rest result ≡ hops (served_map served.entry) (face_at_place (contents_of_view served.entry) place) (face_at_place (contents_of_view served.entry) to) }
         ensures moves { distance (served_map served.entry) (face_at_place (contents_of_view served.entry) place) (face_at_place (contents_of_view served.entry) to) ≡ Some (moves_of result) }
         ensures fresh { IsFalse (is_begun result) }
+        ensures paid { allowance result ≡ rounds_price (contents_of_view served.entry) (rest result) + name_price (contents_of_view served.entry) * length (rest result) }
     {
         let number = distances.get(place);
         HopWalk {
@@ -83,6 +85,7 @@ impl<'a, 'r> HopWalk<'a, 'r> {
         ensures least { IsTrue (is_begun self.old) → IsSome result → steps.old + 1 ≤ steps.new }
         ensures free { IsNone result → steps.new ≡ steps.old }
         ensures grows { steps.old ≤ steps.new }
+        ensures paid { steps.new + allowance self.new ≤ steps.old + allowance self.old }
     {
         if !self.given {
             self.given = true;
@@ -101,6 +104,7 @@ impl<'a, 'r> HopWalk<'a, 'r> {
         ensures within { result ≤ length (contents_of_view self.now.served).faces }
         ensures way { GoesOnAt (contents_of_view self.now.served) self.now.to self.now.place result }
         ensures some_steps { steps.old + 1 ≤ steps.new }
+        ensures paid { steps.new ≤ steps.old + rounds_price (contents_of_view self.now.served) (face_at_place (contents_of_view self.now.served) self.now.place ∷ []) }
     {
         let number = self.distances.get(self.place);
         let mut rings = rings_at(self.served, self.place, steps);

@@ -23,7 +23,7 @@ use Rattle.plane_model.proofs.RotationFaults.{none-rotation_fault}
 use Rattle.rotation_check.specs.Checked.{Names}
 use Rattle.rotation_check.specs.declared.checks.CheckFault.{CheckFault}
 use Rattle.rotation_check.specs.declared.checks.CheckFault.TheVariants as check
-use Rattle.rotation_check.specs.Darts.{RotationRows, map_of_rotation}
+use Rattle.rotation_check.specs.Darts.{RotationRows, map_of_rotation, rotation_rows}
 use Rattle.euler_check.specs.Parts.{parts_fault}
 use Rattle.islands.specs.Darts.{AreDartsOf}
 use Rattle.islands.specs.Placed.{map_with_faces}
@@ -34,11 +34,11 @@ use Rattle.region_tree.specs.Tables.{region_map, region_tables}
 use Rattle.region_tree.proofs.Built.{fault-tables}
 use Rattle.plane_model.specs.Component.{is_plane}
 use Rattle.spanning_pair.specs.Rotations.{AreComponentStarts}
-use Rattle.map_build.specs.Starts.{rotation_of, without_regions, AreOuterDarts}
+use Rattle.map_build.specs.Starts.{without_regions, AreOuterDarts}
 use Rattle.map_build.proofs.Facts.{good}
 use Rattle.map_build.proofs.OfMap.{starts_right}
 
-pub same_rotation : (r : RotationRows) (t : Rows) → r.nodes ≡ t.nodes → r.edges ≡ t.edges → r ≡ rotation_of t
+pub same_rotation : (r : RotationRows) (t : Rows) → r.nodes ≡ t.nodes → r.edges ≡ t.edges → r ≡ rotation_rows t
 same_rotation r t n e = λ i. record { nodes = n i; edges = e i }
 
 -- the rotation and the faces of tables are the tables without regions
@@ -139,14 +139,14 @@ consistent_whole t range ok fine =
 pub outer_darts_are : (r : RotationRows) (t : Rows) (faces : List FaceRow) (starts : List ℕ) → r.nodes ≡ t.nodes → r.edges ≡ t.edges → faces ≡ t.faces → AreDartsOf r.edges (outer_rings (map_with_faces r faces)) starts → AreOuterDarts t starts
 outer_darts_are r t faces starts n e f given =
     let P : RotationRows → List FaceRow → Type 0 = λ q fs. AreDartsOf q.edges (outer_rings (map_with_faces q fs)) starts in
-    let own : P (rotation_of t) t.faces = subst (λ fs. P (rotation_of t) fs) f (subst (λ q. P q faces) (same_rotation r t n e) given) in
+    let own : P (rotation_rows t) t.faces = subst (λ fs. P (rotation_rows t) fs) f (subst (λ q. P q faces) (same_rotation r t n e) given) in
     record { within = own.within; are = own.are ∙ same_outer t }
 
 pub outer_faces_are : (r : RotationRows) (t : Rows) (faces : List FaceRow) → r.nodes ≡ t.nodes → r.edges ≡ t.edges → faces ≡ t.faces
     → map (side (map_with_faces r faces)) (outer_rings (map_with_faces r faces)) ≡ map (side (map_of t)) (outer_rings (map_of t))
 outer_faces_are r t faces n e f =
     let sides : RotationRows → List FaceRow → List ℕ = λ q fs. map (side (map_with_faces q fs)) (outer_rings (map_with_faces q fs)) in
-    ap (λ q. sides q faces) (same_rotation r t n e) ∙ ap (sides (rotation_of t)) f ∙ ap (map (side (map_of t))) (same_outer t)
+    ap (λ q. sides q faces) (same_rotation r t n e) ∙ ap (sides (rotation_rows t)) f ∙ ap (map (side (map_of t))) (same_outer t)
 
 -- tables of the same regions, members and faces
 pub same_tables : (t : Rows) (regions : List RegionRow) (members : List MemberRow) (faces : List FaceRow) → regions ≡ t.regions → members ≡ t.members → faces ≡ t.faces → region_tables regions members faces ≡ region_tables t.regions t.members t.faces
@@ -173,4 +173,4 @@ pub starts_of_rotation : (r : RotationRows) (t : Rows) (starts held : List ℕ) 
 starts_of_rotation r t starts held n e range ok o same =
     let P : RotationRows → List ℕ → Type 0 = λ q xs. AreComponentStarts q xs in
     let outer : AreOuterDarts (without_regions t) held = record { within = o.within; are = o.are ∙ sym (same_outer t) } in
-    subst (λ q. P q starts) (sym (same_rotation r t n e)) (subst (λ xs. P (rotation_of t) xs) (sym same) (starts_right (without_regions t) (range_without t range) ok held outer))
+    subst (λ q. P q starts) (sym (same_rotation r t n e)) (subst (λ xs. P (rotation_rows t) xs) (sym same) (starts_right (without_regions t) (range_without t range) ok held outer))

@@ -31,7 +31,7 @@ use Rattle.code_laws.proofs.Sound.{SoundParts, whole, rises_to}
 use Rattle.code_laws.proofs.Edges.{laws, one_edge, edge_there, edge_within, closed}
 use Rattle.code_laws.proofs.Selects.{other_edge, shell_by_select}
 use Rattle.id_names.specs.Names.{number_of, AreDistinctIds, is_names}
-use Rattle.id_names.proofs.NameLaws.{names_pass}
+use Rattle.id_names.proofs.NumberLaws.{names_pass}
 use Rattle.file_laws.specs.Contents.{Contents}
 use Rattle.file_laws.specs.MapOfFile.{signed_at}
 use Rattle.file_laws.specs.Faults.{is_place, begins_before, place_fault, places_fault, is_smallest, start_fault, member_fault, most}
@@ -130,7 +130,7 @@ module _ (t : Rows) (g : AreGood t) (darts : List ℤ) (tree first : List Bool) 
   s : SoundParts c
   s = steps.s m outer darts tree first places other w
 
-  pub face_names : AreDistinctIds faces
+  pub face_names : AreDistinctIds (LARGEST_ID + 1) faces
   face_names =
       record {
         in_range = λ k l. face_in_range t g (slice_index faces k) (shells.face_from t g darts tree first places other w k l);
@@ -158,11 +158,11 @@ module _ (t : Rows) (g : AreGood t) (darts : List ℤ) (tree first : List Bool) 
       let mate_is = steps.mate_is m outer darts tree first places other w p l in
       sym (laws c s p l).edge ∙ ap (edge_of c) (mate_is ∙ sym is)
 
-  pub edge_names : AreDistinctIds made.edges
+  pub edge_names : AreDistinctIds (LARGEST_ID + 1) made.edges
   edge_names =
       let n = edges_len in
       record {
-        in_range = λ k l. let p = edge_at k (omega (arith, l, n)) in subst (λ x. (1 ≤ x) × (x ≤ LARGEST_ID)) (sym p.3) (edge_in_range t g (d p.0) (w.there p.0 p.1));
+        in_range = λ k l. let p = edge_at k (omega (arith, l, n)) in subst (λ x. (1 ≤ x) × (x < LARGEST_ID + 1)) (sym p.3) (edge_in_range t g (d p.0) (w.there p.0 p.1));
         distinct = λ j k l r e.
             let p = edge_at j (omega (arith, l, n)) in
             let q = edge_at k (omega (arith, r, n)) in
@@ -367,10 +367,10 @@ module _ (t : Rows) (g : AreGood t) (darts : List ℤ) (tree first : List Bool) 
   unfolding is_whole
   whole_made =
       let t1 : is_sound made.code ≡ true = paired.sound tree first places (length outer) other w.paired in
-      let t2 : is_names made.nodes ≡ true = names_pass made.nodes (isolated.node_names t g darts tree first places other w face_names) in
-      let t3 : is_names made.edges ≡ true = names_pass made.edges edge_names in
-      let t4 : is_names made.faces ≡ true = names_pass faces face_names in
-      let t5 : is_names made.regions ≡ true = names_pass made.regions (regions.numbered t g).names in
+      let t2 : is_names (LARGEST_ID + 1) made.nodes ≡ true = names_pass (LARGEST_ID + 1) made.nodes (isolated.node_names t g darts tree first places other w face_names) in
+      let t3 : is_names (LARGEST_ID + 1) made.edges ≡ true = names_pass (LARGEST_ID + 1) made.edges edge_names in
+      let t4 : is_names (LARGEST_ID + 1) made.faces ≡ true = names_pass (LARGEST_ID + 1) faces face_names in
+      let t5 : is_names (LARGEST_ID + 1) made.regions ≡ true = names_pass (LARGEST_ID + 1) made.regions (regions.numbered t g).names in
       let t6 : is_none (places_fault made) ≡ true = rw no_places_fault refl in
       let t7 : is_none (start_fault made) ≡ true = rw no_start_fault refl in
       let t8 : is_none (balance_fault made.region_bits 0 (length made.region_bits)) ≡ true = (regions.numbered t g).balanced in

@@ -14,7 +14,7 @@ use Rattle.plane_model.specs.Rotation.{is_face}
 use Rattle.plane_model.specs.Regions.{parent, is_region, is_region_forest}
 use Rattle.plane_model.proofs.FaultParts.{has_key_at}
 use Rattle.plane_model.proofs.Sorting.{rising-has, rising_strictly, strictly_rising_of}
-use Rattle.id_names.proofs.NameLaws.{number_of-at}
+use Rattle.id_names.proofs.NumberLaws.{number_of-at}
 use Rattle.region_tree.specs.Nesting.{region_at}
 use Rattle.region_tree.specs.Numbering.{AreMembers, AreNumbered}
 use Rattle.region_tree.specs.Parts.{member_places, region_bits, region_ids}
@@ -165,7 +165,7 @@ module _ (t : Rows) (g : AreGood t) where
       of (Some p) e =
           let at = members.regions f ∙ ap (option_map (λ (p : MemberPlace). slice_index ids p.region)) e in
           let k = found_at (λ (p : MemberPlace). p.face == f) (member_places m) p e in
-          let number = number_of-at ids p.region (slice_index ids p.region) numbered.names (members.within k.0 p k.1) refl in
+          let number = number_of-at ids p.region (slice_index ids p.region) numbered.names.distinct (members.within k.0 p k.1) refl in
           ap (λ o. unwrap_or (option_map (λ (p : MemberPlace). p.region + 1) o) 0) e ∙ sym (ap (region_number ids) at ∙ ap (λ o. unwrap_or o 0 + 1) number)
 
 -- two maps with the same regions by number

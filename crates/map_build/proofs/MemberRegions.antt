@@ -3,6 +3,7 @@ use Rattle.std.specs.Prelude.{map, slice_index, unwrap_or, replicate}
 use Rattle.std.proofs.Common.{◌≡◌, ℕ, zero, suc, ◌+◌, ◌<◌, inl, inr, true, false, not, ◌==◌, List, [], ◌∷◌, ◌++◌, take, set, length, get_or, refl, ap, sym, ◌∙◌, arith, subst, add-one}
 use Rattle.std.proofs.lemmas.Bool.{cases_Bool, cases_eq, and_parts, eqb-true, eq-eqb, ne_eqb, or_left, or_right, not-true, both_ways, false_from_ne_true}
 use Rattle.std.proofs.lemmas.List.{length-set, get_or-set_same, get_or-set_other, take_more}
+use Rattle.topo_base.specs.declared.id.TheConstants.{LARGEST_ID}
 use Rattle.plane_model.specs.Sets.{has, is_distinct}
 use Rattle.id_names.specs.Names.{AreDistinctIds}
 use Rattle.region_tree.specs.declared.parts.MemberPlace.{MemberPlace}
@@ -25,7 +26,7 @@ place_there faces f known =
     ]
 
 -- no face stands twice among face 0 and these
-faces_once : (faces : List ℕ) → AreDistinctIds faces → (i j : ℕ) → i < length (0 ∷ faces) → j < length (0 ∷ faces) → slice_index (0 ∷ faces) i ≡ slice_index (0 ∷ faces) j → i ≡ j
+faces_once : (faces : List ℕ) → AreDistinctIds (LARGEST_ID + 1) faces → (i j : ℕ) → i < length (0 ∷ faces) → j < length (0 ∷ faces) → slice_index (0 ∷ faces) i ≡ slice_index (0 ∷ faces) j → i ≡ j
 faces_once faces names zero zero l k e = refl
 faces_once faces names zero (suc j) l k e = let low = (names.in_range j (omega (arith, k))).0 in absurd (omega (arith, low, e))
 faces_once faces names (suc i) zero l k e = let low = (names.in_range i (omega (arith, l))).0 in absurd (omega (arith, low, e))
@@ -63,7 +64,7 @@ before_apart (p ∷ ms) (suc i) d l apart =
 
 -- the list after a member is written
 pub member_written : (faces : List ℕ) (members : List MemberPlace) (i : ℕ) (d : MemberPlace) (place : ℕ) (before : List ℕ)
-    → AreDistinctIds faces → is_distinct (faces_of members) ≡ true → i < length members → IsKnown faces (get_or members i d).face → place ≡ place_of faces (get_or members i d).face
+    → AreDistinctIds (LARGEST_ID + 1) faces → is_distinct (faces_of members) ≡ true → i < length members → IsKnown faces (get_or members i d).face → place ≡ place_of faces (get_or members i d).face
     → before ≡ map (member_region (take i members)) (0 ∷ faces) → set before place ((get_or members i d).region + 1) ≡ map (member_region (take (i + 1) members)) (0 ∷ faces)
 member_written faces members i d place before names apart l known at all =
     let p = get_or members i d in

@@ -31,7 +31,7 @@ use Rattle.map_build.specs.DartRows.{row_at, key_of_dart}
 use Rattle.map_build.specs.Filled.{place_of_node, isolated_of}
 use Rattle.map_build.specs.Made.{walked_at, faces_made, place_of, contents_of_map}
 use Rattle.map_build.specs.Placed.{IsKnown, IsKnownOrNone, placed_nodes}
-use Rattle.map_build.specs.Standing.{place_in, key_in}
+use Rattle.map_build.specs.Standing.{place_in}
 use Rattle.map_build.specs.Tours.{IsWalkOf, code_of_tour, edges_of_tour}
 use Rattle.map_build.specs.declared.checked.Walked.{Walked}
 use Rattle.map_build.specs.declared.standing.Standing.{Standing}
@@ -109,13 +109,13 @@ row_face t k r distinct h = joined_option r.face (option_map (λ n. n.face) (fin
 -- a node that names a face stands there, by its id
 module _ (m : PlaneMap) (fs : List ℕ) where
   IsThere : Standing → Type 0
-  IsThere s = (s.key ≡ s.name) × (s.place ≡ place_of_node m fs s.name) × (is_some (node_face m s.name) ≡ true) × (has m.nodes.keys s.name ≡ true)
+  IsThere s = (s.place ≡ place_of_node m fs s.key) × (is_some (node_face m s.key) ≡ true) × (has m.nodes.keys s.key ≡ true)
 
   there_step : (r : NodeRow) (o : Option ℕ) (ss : List Standing) → node_face m r.id ≡ o → has m.nodes.keys r.id ≡ true → AllByRecursion IsThere ss
-      → AllByRecursion IsThere (cons_option (option_map (λ f. record { place = place_of fs f; key = r.id; name = r.id }) o) ss)
+      → AllByRecursion IsThere (cons_option (option_map (λ f. record { place = place_of fs f; key = r.id; component = 0 }) o) ss)
   unfolding IsThere
   there_step r None ss e k all = all
-  there_step r (Some f) ss e k all = ((refl, sym (ap (λ o. place_of fs (unwrap_or o 0)) e), ap (λ (o : Option ℕ). is_some o) e, k), all)
+  there_step r (Some f) ss e k all = ((sym (ap (λ o. place_of fs (unwrap_or o 0)) e), ap (λ (o : Option ℕ). is_some o) e, k), all)
 
   AreNodesOf : List NodeRow → Type 0
   AreNodesOf ns = (k : ℕ) (d : NodeRow) → k < length ns → (node_face m (get_or ns k d).id ≡ (get_or ns k d).face) × (has m.nodes.keys (get_or ns k d).id ≡ true)
@@ -125,15 +125,15 @@ module _ (m : PlaneMap) (fs : List ℕ) where
   all_there [] h = tt
   all_there (r ∷ rs) h = let first = h 0 r (omega arith) in there_step r r.face (placed_nodes fs rs) first.0 first.1 (all_there rs (λ k d l. h (suc k) d (omega (arith, l))))
 
-  name_first : (r : NodeRow) (o : Option ℕ) (ss : List Standing) → is_some o ≡ true → has (map (λ s. s.name) (cons_option (option_map (λ f. record { place = place_of fs f; key = r.id; name = r.id }) o) ss)) r.id ≡ true
+  name_first : (r : NodeRow) (o : Option ℕ) (ss : List Standing) → is_some o ≡ true → has (map (λ s. s.key) (cons_option (option_map (λ f. record { place = place_of fs f; key = r.id; component = 0 }) o) ss)) r.id ≡ true
   name_first r None ss h = cc
   name_first r (Some f) ss h = or_left (r.id == r.id) _ (eq-eqb r.id r.id refl)
 
-  name_later : (r : NodeRow) (o : Option ℕ) (ss : List Standing) (x : ℕ) → has (map (λ s. s.name) ss) x ≡ true → has (map (λ s. s.name) (cons_option (option_map (λ f. record { place = place_of fs f; key = r.id; name = r.id }) o) ss)) x ≡ true
+  name_later : (r : NodeRow) (o : Option ℕ) (ss : List Standing) (x : ℕ) → has (map (λ s. s.key) ss) x ≡ true → has (map (λ s. s.key) (cons_option (option_map (λ f. record { place = place_of fs f; key = r.id; component = 0 }) o) ss)) x ≡ true
   name_later r None ss x h = h
   name_later r (Some f) ss x h = or_right (x == r.id) _ h
 
-  placed_has : (ns : List NodeRow) (k : ℕ) (d : NodeRow) → k < length ns → is_some (get_or ns k d).face ≡ true → has (map (λ s. s.name) (placed_nodes fs ns)) (get_or ns k d).id ≡ true
+  placed_has : (ns : List NodeRow) (k : ℕ) (d : NodeRow) → k < length ns → is_some (get_or ns k d).face ≡ true → has (map (λ s. s.key) (placed_nodes fs ns)) (get_or ns k d).id ≡ true
   placed_has [] k d l h = absurd (omega (arith, l))
   placed_has (r ∷ rs) zero d l h = name_first r r.face (placed_nodes fs rs) h
   placed_has (r ∷ rs) (suc k) d l h = name_later r r.face (placed_nodes fs rs) (get_or rs k d).id (placed_has rs k d (omega (arith, l)) h)
@@ -167,7 +167,7 @@ module _ (t : Rows) (range : is_in_range t ≡ true) (ok : is_consistent t ≡ t
   pub faces_are : (contents_of_map m).faces ≡ faces
   faces_are = ap (λ x. x.faces) (tour_same t range ok starts w.tour.darts.items w.tour.tree.items w.tour.first.items w.tour.starts.items walk.starts walk.tour)
 
-  pub face_names : AreDistinctIds faces
+  pub face_names : AreDistinctIds (LARGEST_ID + 1) faces
   face_names = complete.face_names t g signed w.tour.tree.items w.tour.first.items w.tour.starts.items (naming.other t range ok w walk) (naming.map_walk t range ok w walk)
 
   abbrev tree : List Bool
@@ -309,10 +309,10 @@ module _ (t : Rows) (range : is_in_range t ≡ true) (ok : is_consistent t ≡ t
       alone = p.isolated.items
 
       abbrev names : List ℕ
-      names = map (λ s. s.name) alone
+      names = map (λ s. s.key) alone
 
       nothing : Standing
-      nothing = record { place = 0; key = 0; name = 0 }
+      nothing = record { place = 0; key = 0; component = 0 }
 
       there : All (IsThere m fs) alone
       unfolding AreNodesOf
@@ -322,15 +322,11 @@ module _ (t : Rows) (range : is_in_range t ≡ true) (ok : is_consistent t ≡ t
       at f i l = get_or-map f alone i nothing 0 l
 
       names_many : length names ≡ length alone
-      names_many = length-map alone (λ (s : Standing). s.name)
+      names_many = length-map alone (λ (s : Standing). s.key)
 
       place_at : (i : ℕ) → i < length alone → place_in alone i ≡ place_of_node m fs (slice_index names i)
       unfolding IsThere
-      place_at i l = at (λ s. s.place) i l ∙ (there i nothing l).1 ∙ ap (place_of_node m fs) (sym (at (λ s. s.name) i l))
-
-      key_at : (i : ℕ) → i < length alone → key_in alone i ≡ slice_index names i
-      unfolding IsThere
-      key_at i l = at (λ s. s.key) i l ∙ (there i nothing l).0 ∙ sym (at (λ s. s.name) i l)
+      place_at i l = at (λ s. s.place) i l ∙ (there i nothing l).0 ∙ ap (place_of_node m fs) (sym (at (λ s. s.key) i l))
 
       alone_order : (i : ℕ) → i + 1 < length names
           → (place_of_node m fs (slice_index names i) < place_of_node m fs (slice_index names (i + 1)))
@@ -339,10 +335,10 @@ module _ (t : Rows) (range : is_in_range t ≡ true) (ok : is_consistent t ≡ t
           let many = names_many in
           let second : i + 1 < length alone = omega (arith, l, many) in
           let first : i < length alone = omega (arith, second) in
-          let a = place_at i first in let b = place_at (i + 1) second in let x = key_at i first in let y = key_at (i + 1) second in
+          let a = place_at i first in let b = place_at (i + 1) second in
           elim (placed.isolated_order i second) [
             | inl h ↦ inl (omega (arith, a, b, h))
-            | inr h ↦ let e = h.0 in let f = h.1 in inr (omega (arith, a, b, e), omega (arith, x, y, f))
+            | inr h ↦ let e = h.0 in let f = h.1 in inr (omega (arith, a, b, e), f)
           ]
 
       isolated_same : map (λ s. s.place) alone ≡ map (place_of_node m fs) names
@@ -363,8 +359,8 @@ module _ (t : Rows) (range : is_in_range t ≡ true) (ok : is_consistent t ≡ t
           let many = names_many in
           let inside : i.0 < length alone = omega (arith, i.1, many) in
           let a = there i.0 nothing inside in
-          let is : (get_or alone i.0 nothing).name ≡ x = sym (at (λ s. s.name) i.0 inside) ∙ i.2 in
-          in_filter same_numbers (λ n. is_some (node_face m n)) m.nodes.keys x (subst (λ y. is_some (node_face m y) ≡ true) is a.2) (subst (λ y. has m.nodes.keys y ≡ true) is a.3))
+          let is : (get_or alone i.0 nothing).key ≡ x = sym (at (λ s. s.key) i.0 inside) ∙ i.2 in
+          in_filter same_numbers (λ n. is_some (node_face m n)) m.nodes.keys x (subst (λ y. is_some (node_face m y) ≡ true) is a.1) (subst (λ y. has m.nodes.keys y ≡ true) is a.2))
           (λ h.
           let k = from_filter same_numbers (λ n. is_some (node_face m n)) m.nodes.keys x h in
           let ids = map (λ (n : NodeRow). n.id) t.nodes in
@@ -376,8 +372,8 @@ module _ (t : Rows) (range : is_in_range t ≡ true) (ok : is_consistent t ≡ t
           let face = (rows_are i.0 none inside).0 in
           let names_one : is_some (get_or t.nodes i.0 none).face ≡ true = ap (λ (o : Option ℕ). is_some o) (sym face) ∙ subst (λ y. is_some (node_face m y) ≡ true) (sym is) k.0 in
           let here = placed_has m fs t.nodes i.0 none inside names_one in
-          same_members (map (λ s. s.name) (placed_nodes fs t.nodes)) names x (IsPermutation-map (λ s. s.name) (placed_nodes fs t.nodes) alone placed.isolated)
-          ∙ subst (λ y. has (map (λ s. s.name) (placed_nodes fs t.nodes)) y ≡ true) is here)
+          same_members (map (λ s. s.key) (placed_nodes fs t.nodes)) names x (IsPermutation-map (λ s. s.key) (placed_nodes fs t.nodes) alone placed.isolated)
+          ∙ subst (λ y. has (map (λ s. s.key) (placed_nodes fs t.nodes)) y ≡ true) is here)
 
       places_same : p.places.items ≡ map (λ r. place_of fs (side m r)) outer
       places_same = placed.places ∙ ap (map (place_of fs)) walk.faces ∙ map_map (place_of fs) (side m) outer

@@ -31,10 +31,10 @@ sorted_step p q k l n o h apart = elim (cases_lt p q) [
 ]
 
 nothing : Standing
-nothing = record { place = 0; key = 0; name = 0 }
+nothing = record { place = 0; key = 0; component = 0 }
 
 pub sorted_order : (xs ys : List Standing) → IsDistinct nat_eq (map (λ s. s.key) xs) → IsPermutation xs ys
-    → ((k : ℕ) (d : Standing) → 0 ≤ k → k + 1 < length ys → is_lt (ordering_then (nat_cmp (get_or ys (k + 1) d).place (get_or ys k d).place) (ordering_then (nat_cmp (get_or ys (k + 1) d).key (get_or ys k d).key) (nat_cmp (get_or ys (k + 1) d).name (get_or ys k d).name))) ≡ false)
+    → ((k : ℕ) (d : Standing) → 0 ≤ k → k + 1 < length ys → is_lt (ordering_then (nat_cmp (get_or ys (k + 1) d).place (get_or ys k d).place) (ordering_then (nat_cmp (get_or ys (k + 1) d).key (get_or ys k d).key) (nat_cmp (get_or ys (k + 1) d).component (get_or ys k d).component))) ≡ false)
     → AreInOrder ys
 sorted_order xs ys distinct moved sorted i l =
     let apart : IsDistinct nat_eq (map (λ s. s.key) ys) = IsDistinct-IsPermutation nat_eq nat_eq_equiv.symm (map (λ s. s.key) xs) (map (λ s. s.key) ys) (IsPermutation-map (λ s. s.key) xs ys moved) distinct in
@@ -43,5 +43,5 @@ sorted_order xs ys distinct moved sorted i l =
     let at = λ (f : Standing → ℕ) (j : ℕ) (k : j < length ys). get_or-map f ys j nothing 0 k in
     let here : i < length ys = omega (arith, l) in
     let step = sorted i nothing (omega arith) l in
-    sorted_step (place_in ys i) (place_in ys (i + 1)) (key_in ys i) (key_in ys (i + 1)) (get_or ys i nothing).name (get_or ys (i + 1) nothing).name
+    sorted_step (place_in ys i) (place_in ys (i + 1)) (key_in ys i) (key_in ys (i + 1)) (get_or ys i nothing).component (get_or ys (i + 1) nothing).component
     (rw (at (λ s. s.place) i here, at (λ s. s.place) (i + 1) l, at (λ s. s.key) i here, at (λ s. s.key) (i + 1) l) step) differ

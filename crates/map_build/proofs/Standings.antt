@@ -33,12 +33,12 @@ none_step h (z ∷ zs) zero d l none = rw none refl
 none_step h (z ∷ zs) (suc i) d l none = ap (cons_option (h z)) (none_step h zs i d (omega (arith, l)) none)
 
 pub node_stands : (faces : List ℕ) (nodes : List NodeRow) (i : ℕ) (row : NodeRow) (f place : ℕ) (before after : List Standing) → i < length nodes → (get_or nodes i row).face ≡ Some f → place ≡ place_of faces f → before ≡ placed_nodes faces (take i nodes)
-    → after ≡ before ++ record { place = place; key = (get_or nodes i row).id; name = (get_or nodes i row).id } ∷ [] → after ≡ placed_nodes faces (take (i + 1) nodes)
+    → after ≡ before ++ record { place = place; key = (get_or nodes i row).id; component = 0 } ∷ [] → after ≡ placed_nodes faces (take (i + 1) nodes)
 node_stands faces nodes i row f place before after l named at all more =
     let id = (get_or nodes i row).id in
-    let P : ℕ → List Standing → List Standing = λ v ss. ss ++ record { place = v; key = id; name = id } ∷ [] in
-    let stands : placed_node faces (get_or nodes i row) ≡ Some (record { place = place_of faces f; key = id; name = id }) = rw named refl in
-    more ∙ (λ j. P (at j) (all j)) ∙ sym (rw (add-one i) (some_step (placed_node faces) nodes i row (record { place = place_of faces f; key = id; name = id }) l stands))
+    let P : ℕ → List Standing → List Standing = λ v ss. ss ++ record { place = v; key = id; component = 0 } ∷ [] in
+    let stands : placed_node faces (get_or nodes i row) ≡ Some (record { place = place_of faces f; key = id; component = 0 }) = rw named refl in
+    more ∙ (λ j. P (at j) (all j)) ∙ sym (rw (add-one i) (some_step (placed_node faces) nodes i row (record { place = place_of faces f; key = id; component = 0 }) l stands))
 
 pub node_passed : (faces : List ℕ) (nodes : List NodeRow) (i : ℕ) (row : NodeRow) (before after : List Standing) → i < length nodes → (get_or nodes i row).face ≡ None → before ≡ placed_nodes faces (take i nodes) → after ≡ before
     → after ≡ placed_nodes faces (take (i + 1) nodes)
@@ -55,7 +55,7 @@ not_among x (y ∷ ys) h = elim (cases_Bool (x == y)) [
 ]
 
 key_step : (faces : List ℕ) (n : NodeRow) (face : Option ℕ) (ss : List Standing) (x : ℕ) (b : Bool) → (has (map (λ s. s.key) ss) x ≡ true → b ≡ true)
-    → has (map (λ s. s.key) (cons_option (option_map (λ f. record { place = place_of faces f; key = n.id; name = n.id }) face) ss)) x ≡ true → ((x == n.id) || b) ≡ true
+    → has (map (λ s. s.key) (cons_option (option_map (λ f. record { place = place_of faces f; key = n.id; component = 0 }) face) ss)) x ≡ true → ((x == n.id) || b) ≡ true
 key_step faces n None ss x b more h = or_right (x == n.id) b (more h)
 key_step faces n (Some f) ss x b more h = elim (or_cases (x == n.id) (has (map (λ s. s.key) ss) x) h) [ inl a ↦ or_left (x == n.id) b a | inr c ↦ or_right (x == n.id) b (more c) ]
 
@@ -64,7 +64,7 @@ key_from_id faces [] x h = absurd (both_ways false refl h)
 key_from_id faces (n ∷ ns) x h = key_step faces n n.face (placed_nodes faces ns) x (has (map (λ n. n.id) ns) x) (key_from_id faces ns x) h
 
 apart_step : (faces : List ℕ) (n : NodeRow) (face : Option ℕ) (ss : List Standing) → IsDistinct nat_eq (map (λ s. s.key) ss) → has (map (λ s. s.key) ss) n.id ≡ false
-    → IsDistinct nat_eq (map (λ s. s.key) (cons_option (option_map (λ f. record { place = place_of faces f; key = n.id; name = n.id }) face) ss))
+    → IsDistinct nat_eq (map (λ s. s.key) (cons_option (option_map (λ f. record { place = place_of faces f; key = n.id; component = 0 }) face) ss))
 apart_step faces n None ss d new = d
 apart_step faces n (Some f) ss d new = IsDistinct-cons nat_eq n.id (map (λ s. s.key) ss) (not_among n.id (map (λ s. s.key) ss) new) d
 
@@ -80,9 +80,9 @@ apart_nodes faces (n ∷ ns) h =
     apart_step faces n n.face (placed_nodes faces ns) (apart_nodes faces ns p.1) new
 
 -- the components
-names_are : (places keys : List ℕ) (low n : ℕ) → map (λ s. s.name) (map (placed_component places keys) (range_with_len low n)) ≡ range_with_len low n
-names_are places keys low zero = refl
-names_are places keys low (suc n) = let more = names_are places keys (low + 1) n in λ i. low ∷ more i
+components_are : (places keys : List ℕ) (low n : ℕ) → map (λ s. s.component) (map (placed_component places keys) (range_with_len low n)) ≡ range_with_len low n
+components_are places keys low zero = refl
+components_are places keys low (suc n) = let more = components_are places keys (low + 1) n in λ i. low ∷ more i
 
 keys_along : (places keys : List ℕ) (low n : ℕ) → map (λ s. s.key) (map (placed_component places keys) (range_with_len low n)) ≡ map (slice_index keys) (range_with_len low n)
 keys_along places keys low zero = refl
@@ -94,10 +94,10 @@ keys_are places keys many =
     keys_along places keys 0 (length places) ∙ sym whole
 
 pub component_more : (places starts : List ℕ) (key : ℕ → ℕ) (k y : ℕ) (before after : List Standing) → k < length starts → y ≡ key (slice_index starts k) → before ≡ map (placed_component places (map key starts)) (range_with_len 0 k)
-    → after ≡ before ++ record { place = slice_index places k; key = y; name = k } ∷ [] → after ≡ map (placed_component places (map key starts)) (range_with_len 0 (k + 1))
+    → after ≡ before ++ record { place = slice_index places k; key = y; component = k } ∷ [] → after ≡ map (placed_component places (map key starts)) (range_with_len 0 (k + 1))
 component_more places starts key k y before after l is all more =
     let e : y ≡ slice_index (map key starts) k = is ∙ sym (get_or-map key starts k 0 0 l) in
-    let P : ℕ → List Standing = λ v. before ++ record { place = slice_index places k; key = v; name = k } ∷ [] in
+    let P : ℕ → List Standing = λ v. before ++ record { place = slice_index places k; key = v; component = k } ∷ [] in
     more ∙ ap P e ∙ ap (λ ss. ss ++ placed_component places (map key starts) k ∷ []) all ∙ sym (map-range_with_len_more (placed_component places (map key starts)) 0 k k (omega arith))
 
 pub same_members : (xs ys : List ℕ) (z : ℕ) → IsPermutation xs ys → has ys z ≡ has xs z
@@ -106,22 +106,22 @@ same_members xs ys z moved =
     (λ h. has_from_Contains ys z (Contains-permutation xs ys z moved (Contains_from_has xs z h)))
 
 nothing : Standing
-nothing = record { place = 0; key = 0; name = 0 }
+nothing = record { place = 0; key = 0; component = 0 }
 
-pub ordered : (places keys : List ℕ) (ys : List Standing) → IsPermutation (placed_components places keys) ys → AreInOrder ys → AreOrdered places keys (map (λ s. s.name) ys)
+pub ordered : (places keys : List ℕ) (ys : List Standing) → IsPermutation (placed_components places keys) ys → AreInOrder ys → AreOrdered places keys (map (λ s. s.component) ys)
 ordered places keys ys moved order =
-    let P : Standing → Type 0 = λ s. (s.place ≡ slice_index places s.name) × (s.key ≡ slice_index keys s.name) in
+    let P : Standing → Type 0 = λ s. (s.place ≡ slice_index places s.component) × (s.key ≡ slice_index keys s.component) in
     let count = length places in
     let of : All P (placed_components places keys) =
     (λ k d l. let m = length-map (range_with_len 0 count) (placed_component places keys) in let r = length-range_with_len 0 count in
     subst P (sym (get_or-map-range_with_len (placed_component places keys) 0 count k k d (omega (arith, l, m, r)) (omega arith))) (refl, refl)) in
     let here : All P ys = All-permutation P (placed_components places keys) ys moved of in
     let at = λ (f : Standing → ℕ) (j : ℕ) (k : j < length ys). get_or-map f ys j nothing 0 k in
-    let many = length-map ys (λ (s : Standing). s.name) in
-    let place = λ (j : ℕ) (k : j < length ys). at (λ s. s.place) j k ∙ (here j nothing k).0 ∙ ap (slice_index places) (sym (at (λ s. s.name) j k)) in
-    let key = λ (j : ℕ) (k : j < length ys). at (λ s. s.key) j k ∙ (here j nothing k).1 ∙ ap (slice_index keys) (sym (at (λ s. s.name) j k)) in
+    let many = length-map ys (λ (s : Standing). s.component) in
+    let place = λ (j : ℕ) (k : j < length ys). at (λ s. s.place) j k ∙ (here j nothing k).0 ∙ ap (slice_index places) (sym (at (λ s. s.component) j k)) in
+    let key = λ (j : ℕ) (k : j < length ys). at (λ s. s.key) j k ∙ (here j nothing k).1 ∙ ap (slice_index keys) (sym (at (λ s. s.component) j k)) in
     record {
-      all = λ j. same_members (map (λ s. s.name) (placed_components places keys)) (map (λ s. s.name) ys) j (IsPermutation-map (λ s. s.name) (placed_components places keys) ys moved) ∙ ap (λ xs. has xs j) (names_are places keys 0 count);
+      all = λ j. same_members (map (λ s. s.component) (placed_components places keys)) (map (λ s. s.component) ys) j (IsPermutation-map (λ s. s.component) (placed_components places keys) ys moved) ∙ ap (λ xs. has xs j) (components_are places keys 0 count);
       rises = λ i l.
           let first : i < length ys = omega (arith, l, many) in
           let second : i + 1 < length ys = omega (arith, l, many) in

@@ -30,14 +30,14 @@ IsKnownOrNone faces (Some f) = IsKnown faces f
 
 -- a node in its face
 abbrev pub placed_node : List ℕ → NodeRow → Option Standing
-placed_node faces n = option_map (λ f. record { place = place_of faces f; key = n.id; name = n.id }) n.face
+placed_node faces n = option_map (λ f. record { place = place_of faces f; key = n.id; component = 0 }) n.face
 
 abbrev pub placed_nodes : List ℕ → List NodeRow → List Standing
 placed_nodes faces nodes = filter_map (placed_node faces) nodes
 
 -- a component in its face
 abbrev pub placed_component : List ℕ → List ℕ → ℕ → Standing
-placed_component places keys j = record { place = slice_index places j; key = slice_index keys j; name = j }
+placed_component places keys j = record { place = slice_index places j; key = slice_index keys j; component = j }
 
 abbrev pub placed_components : List ℕ → List ℕ → List Standing
 placed_components places keys = map (placed_component places keys) (range_with_len 0 (length places))
@@ -76,7 +76,7 @@ joined_contents tour n p r =
     record {
       code = code_of_tour tour;
       forward = n.forward.items;
-      nodes = n.nodes.items ++ map (λ s. s.name) p.isolated.items;
+      nodes = n.nodes.items ++ map (λ s. s.key) p.isolated.items;
       edges = n.edges.items;
       faces = n.faces.items;
       regions = r.ids.items;

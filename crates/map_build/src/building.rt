@@ -20,7 +20,7 @@ use crate::fault::BuildFault;
 use crate::names::{Names, name_walk};
 use crate::places::{FacePlaces, component_order};
 use crate::regions::number_regions;
-use crate::standing::{Standing, standing_names, standing_places};
+use crate::standing::{Standing, standing_nodes, standing_places};
 use pemb_file::{ImageParts, write_image};
 use plane_model::Tables;
 use region_tree::{MemberPlace, RegionParts};
@@ -82,7 +82,7 @@ fn join(
     ensures contents { IfOk result (λ parts. contents_of_parts parts ≡ joined_contents tour names placed regions) }
 {
     let mut nodes = names.nodes;
-    nodes.extend_from_slice(&standing_names(alloc, &placed.isolated)?)?;
+    nodes.extend_from_slice(&standing_nodes(alloc, &placed.isolated)?)?;
     let isolated = standing_places(alloc, &placed.isolated)?;
     Ok(ImageParts {
         tree: tour.tree,
@@ -124,7 +124,7 @@ pub fn build(alloc: Global, tables: &Tables) -> Result<Vec<u8>, BuildFault>
     ensures consistent { OnOk result (IsTrue (is_consistent (rows_of tables.now))) }
     ensures lawful { IfOk result (λ image. IsTrue (is_lawful image.items)) }
     ensures stands { IfOk result (λ image. StandsFor image.items (rows_of tables.now)) }
-    ensures image { IfOk result (λ image. image.items ≡ image_of (contents_of_map (map_of (rows_of tables.now)))) }
+    ensures image { IfOk result (λ image. image.items ≡ image_of 2 (contents_of_map (map_of (rows_of tables.now)))) }
     ensures refused { IfErr result (λ e. NamesFault e (first_fault (rows_of tables.now))) }
     ensures exactly { is_none (first_fault (rows_of tables.now)) ≡ is_consistent (rows_of tables.now) }
 {

@@ -6,13 +6,14 @@ ghost use Rattle.plane_model.specs.PlaneMap.{PlaneMap, Same, map_of, side, origi
 ghost use Rattle.plane_model.specs.Faces.{outer_rings};
 ghost use Rattle.plane_model.specs.Consistent.{is_consistent};
 ghost use Rattle.plane_model.specs.InRange.{is_in_range};
-ghost use Rattle.rotation_check.specs.Darts.{signed_edge};
+ghost use Rattle.rotation_check.specs.Darts.{signed_edge, rotation_rows};
 ghost use Rattle.spanning_pair.specs.Rotations.{next_dart, node_row, AreComponentStarts};
 ghost use Rattle.spanning_pair.specs.Tours.{IsTour};
 ghost use Rattle.code_laws.specs.Code.{mate, next, turn};
 ghost use Rattle.code_laws.specs.SeqFault.{is_sound};
 ghost use Rattle.code_laws.specs.Tour.{code_of};
-ghost use Rattle.file_laws.specs.Contents.{Contents, contents_of};
+ghost use Rattle.file_laws.specs.Contents.{Contents};
+ghost use Rattle.file_laws.specs.Held.{contents_of};
 ghost use Rattle.file_laws.specs.MapOfFile.{rows_of_contents, signed_at, node_at, face_at};
 ghost use Rattle.file_laws.specs.Lawful.{is_whole, StandsFor};
 ghost use Rattle.map_build.specs.Made.{walked_at, contents_of_walk, contents_of_map};
@@ -21,7 +22,7 @@ ghost use Rattle.file_laws.specs.Layout.{words_of};
 ghost use Rattle.islands.specs.Darts.{AreDartsOf};
 ghost use Rattle.islands.specs.Placed.{map_with_faces};
 ghost use Rattle.map_build.specs.Filled.{AreFilled};
-ghost use Rattle.map_build.specs.Starts.{rotation_of, AreOuterDarts};
+ghost use Rattle.map_build.specs.Starts.{AreOuterDarts};
 ghost use Rattle.map_build.specs.Walked.{IsPaired, IsMapWalk};
 
 /// Where the places of a walk are in pairs that nest, its code is sound, and the mate of a position is the other place
@@ -50,9 +51,9 @@ pub fn contents_of_walks()
 /// The darts of the outer rings are one for each component, the tour from them is a walk of the map, and what is made
 /// of it is the contents of the map.
 pub fn contents_of_tours()
-    ensures starts { (t : Rows) (starts : List ℕ) → IsTrue (is_in_range t) → IsTrue (is_consistent t) → AreOuterDarts t starts → AreComponentStarts (rotation_of t) starts }
-    ensures walk { (t : Rows) (starts darts : List ℕ) (tree first : List Bool) (places : List ℕ) → IsTrue (is_in_range t) → IsTrue (is_consistent t) → AreOuterDarts t starts → IsTour (length t.edges) (next_dart (rotation_of t)) (node_row (rotation_of t)) starts darts tree first places → (other : ℕ → ℕ) × IsMapWalk (map_of t) (outer_rings (map_of t)) (map (signed_edge t.edges) darts) tree first places other }
-    ensures same { (t : Rows) (starts darts : List ℕ) (tree first : List Bool) (places : List ℕ) → IsTrue (is_in_range t) → IsTrue (is_consistent t) → AreOuterDarts t starts → IsTour (length t.edges) (next_dart (rotation_of t)) (node_row (rotation_of t)) starts darts tree first places → contents_of_map (map_of t) ≡ contents_of_walk (map_of t) (map (signed_edge t.edges) darts) tree first places }
+    ensures starts { (t : Rows) (starts : List ℕ) → IsTrue (is_in_range t) → IsTrue (is_consistent t) → AreOuterDarts t starts → AreComponentStarts (rotation_rows t) starts }
+    ensures walk { (t : Rows) (starts darts : List ℕ) (tree first : List Bool) (places : List ℕ) → IsTrue (is_in_range t) → IsTrue (is_consistent t) → AreOuterDarts t starts → IsTour (length t.edges) (next_dart (rotation_rows t)) (node_row (rotation_rows t)) starts darts tree first places → (other : ℕ → ℕ) × IsMapWalk (map_of t) (outer_rings (map_of t)) (map (signed_edge t.edges) darts) tree first places other }
+    ensures same { (t : Rows) (starts darts : List ℕ) (tree first : List Bool) (places : List ℕ) → IsTrue (is_in_range t) → IsTrue (is_consistent t) → AreOuterDarts t starts → IsTour (length t.edges) (next_dart (rotation_rows t)) (node_row (rotation_rows t)) starts darts tree first places → contents_of_map (map_of t) ≡ contents_of_walk (map_of t) (map (signed_edge t.edges) darts) tree first places }
 {}
 
 /// The contents of a consistent map are whole, and stand for its tables: a function of the map, so that tables of one
@@ -65,8 +66,8 @@ pub fn contents_of_maps()
 
 /// The darts that a placement gives are those of the outer rings, and its faces are theirs.
 pub fn starts_of_placements()
-    ensures starts { (t : Rows) (starts : List ℕ) → AreDartsOf t.edges (outer_rings (map_with_faces (rotation_of t) t.faces)) starts → AreOuterDarts t starts }
-    ensures faces { (t : Rows) → map (side (map_with_faces (rotation_of t) t.faces)) (outer_rings (map_with_faces (rotation_of t) t.faces)) ≡ map (side (map_of t)) (outer_rings (map_of t)) }
+    ensures starts { (t : Rows) (starts : List ℕ) → AreDartsOf t.edges (outer_rings (map_with_faces (rotation_rows t) t.faces)) starts → AreOuterDarts t starts }
+    ensures faces { (t : Rows) → map (side (map_with_faces (rotation_rows t) t.faces)) (outer_rings (map_with_faces (rotation_rows t) t.faces)) ≡ map (side (map_of t)) (outer_rings (map_of t)) }
 {}
 
 /// What is made of a walk is what is filled by number at its positions and sorted by place, and nothing else is.
@@ -78,11 +79,11 @@ pub fn filled_contents()
 /// So contents that are filled and sorted so from the tour of the outer rings are the contents of the map, and a file
 /// that holds the contents of a map stands for its tables.
 pub fn built_contents()
-    ensures built { (t : Rows) (starts darts : List ℕ) (tree first : List Bool) (places : List ℕ) (x : Contents) → IsTrue (is_in_range t) → IsTrue (is_consistent t) → AreOuterDarts t starts → IsTour (length t.edges) (next_dart (rotation_of t)) (node_row (rotation_of t)) starts darts tree first places → AreFilled (map_of t) (code_of tree first places) (map (signed_edge t.edges) darts) x → x ≡ contents_of_map (map_of t) }
+    ensures built { (t : Rows) (starts darts : List ℕ) (tree first : List Bool) (places : List ℕ) (x : Contents) → IsTrue (is_in_range t) → IsTrue (is_consistent t) → AreOuterDarts t starts → IsTour (length t.edges) (next_dart (rotation_rows t)) (node_row (rotation_rows t)) starts darts tree first places → AreFilled (map_of t) (code_of tree first places) (map (signed_edge t.edges) darts) x → x ≡ contents_of_map (map_of t) }
     ensures stands { (bytes : List ℕ) (t : Rows) → IsTrue (is_in_range t) → IsTrue (is_consistent t) → contents_of (words_of bytes) ≡ contents_of_map (map_of t) → StandsFor bytes t }
 {}
 
-/// Tables of one map have one image, whatever the order of their rows.
+/// Tables of one map have one image in each form, whatever the order of their rows.
 pub fn one_image()
-    ensures { (t u : Rows) → Same t u → image_of (contents_of_map (map_of t)) ≡ image_of (contents_of_map (map_of u)) }
+    ensures { (form : ℕ) (t u : Rows) → Same t u → image_of form (contents_of_map (map_of t)) ≡ image_of form (contents_of_map (map_of u)) }
 {}

@@ -59,18 +59,28 @@ pub(crate) fn name_walk(
     let tour = &walked.tour;
     let numbering = number(alloc, &tour.tree, &tour.first, &tour.starts)?;
     let tree_edges = tree_edges(tour);
-    let nodes = walked.placement.starts().len() + tree_edges;
-    let faces = tables.edges.len() - tree_edges;
+    let node_count = walked.placement.starts().len() + tree_edges;
+    let face_count = tables.edges.len() - tree_edges;
+    // Each list of numbers is given back as soon as it is used up.
+    let nodes = {
+        let numbers = numbering.node;
+        node_ids(alloc, node_count, &tables.edges, &tour.darts, &numbers)?
+    };
+    let faces = {
+        let numbers = numbering.ring;
+        face_ids(alloc, face_count, &tables.edges, &tour.darts, &numbers)?
+    };
+    let numbers = numbering.edge;
     Ok(Names {
-        edges: edge_ids(alloc, &tables.edges, &tour.darts, &numbering.edge)?,
+        edges: edge_ids(alloc, &tables.edges, &tour.darts, &numbers)?,
         forward: directions(
             alloc,
             tables.edges.len(),
             &tour.darts,
             &tour.first,
-            &numbering.edge,
+            &numbers,
         )?,
-        nodes: node_ids(alloc, nodes, &tables.edges, &tour.darts, &numbering.node)?,
-        faces: face_ids(alloc, faces, &tables.edges, &tour.darts, &numbering.ring)?,
+        nodes,
+        faces,
     })
 }

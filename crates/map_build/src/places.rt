@@ -1,11 +1,11 @@
 //! The places of faces, what stands in them, and the regions that they are in.
 
-ghost use Rattle.std.specs.Prelude.{◌≡◌, ◌≤◌, ◌<◌, ◌*◌, ◌^◌, ◌∷◌, ℕ, IfOk, IsTrue, length, map, nat_eq, nat_le, slice_index};
+ghost use Rattle.std.specs.Prelude.{◌≡◌, ◌≤◌, ◌<◌, ◌*◌, ◌^◌, ◌+◌, ◌∷◌, ℕ, IfOk, IsTrue, length, map, nat_eq, nat_le, slice_index};
 ghost use Rattle.std.specs.List.{All, IsDistinct, list_all};
 ghost use Rattle.std.specs.List.Sorted.{IsPermutation};
 ghost use Rattle.plane_model.specs.Sets.{is_distinct};
 ghost use Rattle.topo_base.specs.declared.id.TheConstants.{LARGEST_ID};
-ghost use Rattle.rotation_check.specs.Index.{IsIndex};
+ghost use Rattle.id_index.specs.Index.{IsIndex};
 ghost use Rattle.id_names.specs.Names.{AreDistinctIds};
 ghost use Rattle.map_build.specs.DartRows.{key_of_dart};
 ghost use Rattle.map_build.specs.Made.{place_of};
@@ -13,34 +13,33 @@ ghost use Rattle.map_build.specs.Standing.{AreInOrder};
 ghost use Rattle.map_build.specs.Placed.{IsKnown, IsKnownOrNone, AreOrdered, member_region, placed_nodes, placed_components};
 
 use crate::rows::edge_key;
-use crate::standing::{Standing, in_order, standing_names};
+use crate::standing::{Standing, in_order, standing_components};
+use id_index::IdIndex;
 use plane_model::{EdgeRow, NodeRow};
 use region_tree::MemberPlace;
-use rotation_check::rows_by_id;
 use std::alloc::{AllocError, Global};
-use std::collections::BTreeMap;
 use topo_base::IdNumber;
 
 /// The numbers of faces by their ids.
 #[derive(Drop)]
 pub(crate) struct FacePlaces<'a> {
     faces: &'a [IdNumber],
-    numbers: BTreeMap<IdNumber, u32>,
+    numbers: IdIndex,
     ghost index: { IsIndex faces.now numbers },
-    ghost names: { AreDistinctIds faces.now },
+    ghost names: { AreDistinctIds (LARGEST_ID + 1) faces.now },
     ghost few: { length faces.now < 2 ^ 32 },
 }
 
 impl<'a> FacePlaces<'a> {
     /// The places of these faces.
     pub(crate) fn new(alloc: Global, faces: &'a [IdNumber]) -> Result<Self, AllocError>
-        requires names { AreDistinctIds faces.now }
+        requires names { AreDistinctIds (LARGEST_ID + 1) faces.now }
         requires few { length faces.now < 2 ^ 32 }
         ensures faces { IfOk result (λ places. places.faces.now ≡ faces.now) }
     {
         Ok(FacePlaces {
             faces,
-            numbers: rows_by_id(alloc, faces)?,
+            numbers: IdIndex::new(alloc, faces)?,
         })
     }
 
@@ -52,8 +51,8 @@ impl<'a> FacePlaces<'a> {
         if face == 0 {
             return 0;
         }
-        match self.numbers.get(&face) {
-            Some(number) => *number + 1,
+        match self.numbers.row_of(face) {
+            Some(number) => number + 1,
             None => unreachable!(),
         }
     }
@@ -85,7 +84,7 @@ impl<'a> FacePlaces<'a> {
                 standing.push(Standing {
                     place: self.place(face),
                     key: node.id,
-                    name: node.id,
+                    component: 0,
                 })?;
             }
         }
@@ -142,7 +141,7 @@ pub(crate) fn component_order(
     ensures { IfOk result (λ order. AreOrdered places.now (map (key_of_dart edges.now) starts.now) order.items) }
 {
     let standing = components(alloc, edges, starts, places)?;
-    standing_names(alloc, &in_order(standing))
+    standing_components(alloc, &in_order(standing))
 }
 
 /// The components in the faces that contain them.
@@ -163,7 +162,7 @@ fn components(
         standing.push(Standing {
             place: places[component],
             key: edge_key(edges, starts[component]),
-            name: component as u32,
+            component: component as u32,
         })?;
     }
     Ok(standing)

@@ -55,10 +55,10 @@ pub(crate) fn face_id(edges: &[EdgeRow], dart: u32) -> IdNumber
 }
 
 /// A number that grows in the order of signed edges.
-pub(crate) fn edge_key(edges: &[EdgeRow], dart: u32) -> u32
+pub(crate) fn edge_key(edges: &[EdgeRow], dart: u32) -> u64
     requires dart { dart < 2 * length edges.now }
     requires ids { IsTrue (list_all (λ e. nat_le e.id LARGEST_ID) edges.now) }
     ensures { result ≡ key_of_dart edges.now dart }
 {
-    2 * edge_id(edges, dart) + dart % 2
+    2 * edge_id(edges, dart) + u64::from(dart % 2)
 }

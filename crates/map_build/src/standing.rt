@@ -7,16 +7,17 @@ ghost use Rattle.std.specs.Prelude.{nat_eq};
 ghost use Rattle.map_build.specs.Standing.{AreInOrder};
 
 use std::alloc::{AllocError, Global};
+use topo_base::IdNumber;
 
 /// Something that stands in a face.
 #[derive(Clone, Copy, PartialEq, Eq, PartialOrd, Ord)]
 pub(crate) struct Standing {
     /// The place of the face: 0 for face 0, and else 1 + the number of the face.
     pub(crate) place: u32,
-    /// What orders the things that stand in one face.
-    pub(crate) key: u32,
-    /// The number of the component, or the id of the node.
-    pub(crate) name: u32,
+    /// What orders the things that stand in one face: the id of a node, or the key of a component.
+    pub(crate) key: u64,
+    /// The number of a component, and 0 for a node.
+    pub(crate) component: u32,
 }
 
 /// All that stands in faces, by place and then by key.
@@ -29,11 +30,24 @@ pub(crate) fn in_order(mut standing: Vec<Standing>) -> Vec<Standing>
     standing
 }
 
-/// The names of what stands in faces.
-pub(crate) fn standing_names(alloc: Global, standing: &[Standing]) -> Result<Vec<u32>, AllocError>
-    ensures { IfOk result (λ names. names.items ≡ map (λ s. s.name) standing.now) }
+/// The numbers of components that stand in faces.
+pub(crate) fn standing_components(
+    alloc: Global,
+    standing: &[Standing],
+) -> Result<Vec<u32>, AllocError>
+    ensures { IfOk result (λ components. components.items ≡ map (λ s. s.component) standing.now) }
 {
-    standing.iter().map(|one| one.name).collect(alloc)
+    standing.iter().map(|one| one.component).collect(alloc)
+}
+
+/// The ids of nodes that stand in faces.
+pub(crate) fn standing_nodes(
+    alloc: Global,
+    standing: &[Standing],
+) -> Result<Vec<IdNumber>, AllocError>
+    ensures { IfOk result (λ ids. ids.items ≡ map (λ s. s.key) standing.now) }
+{
+    standing.iter().map(|one| one.key).collect(alloc)
 }
 
 /// The places of what stands in faces.

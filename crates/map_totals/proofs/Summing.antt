@@ -1,6 +1,6 @@
 -- A sum over ids that are asked one after the other.
 use Rattle.std.specs.Prelude.{slice_index, drop, sum_by}
-use Rattle.std.proofs.Common.{◌≡◌, ℕ, ◌+◌, ◌*◌, ◌<◌, ◌≤◌, List, length, ap, ◌∙◌, arith, length-drop}
+use Rattle.std.proofs.Common.{◌≡◌, ℕ, ◌+◌, ◌<◌, ◌≤◌, List, length, ap, ◌∙◌, arith}
 use Rattle.std.proofs.lemmas.List.Sums.{sum_by-drop_more}
 use Rattle.std.proofs.Math.ListN.{drop_of_length-le}
 
@@ -8,26 +8,23 @@ use Rattle.std.proofs.Math.ListN.{drop_of_length-le}
 pub record IsSummed (items words : ℕ → ℕ) (left : List ℕ) (all first most total steps : ℕ) : Type 0 where
   pub adds_up : total + sum_by items left ≡ all
   pub least : first + total ≤ steps
-  pub paid : steps + (sum_by words left + 2 * length left) ≤ most
+  pub paid : steps + sum_by words left ≤ most
 
 -- one id more, which is read first
-pub summed_more : (items words : ℕ → ℕ) (ids : List ℕ) (k all first most total steps middle last count id : ℕ) → IsSummed items words (drop k ids) all first most total steps → k < length ids → id ≡ slice_index ids k → steps ≤ middle → middle ≤ steps + 2
-    → count ≡ items id → middle + count ≤ last → last ≤ middle + words id → IsSummed items words (drop (k + 1) ids) all first most (total + count) last
-summed_more items words ids k all first most total steps middle last count id s l is low high counted least paid =
+pub summed_more : (items words : ℕ → ℕ) (ids : List ℕ) (k all first most total steps price middle last count id : ℕ) → IsSummed items (λ x. price + words x) (drop k ids) all first most total steps → k < length ids → id ≡ slice_index ids k
+    → steps ≤ middle → middle ≤ steps + price → count ≡ items id → middle + count ≤ last → last ≤ middle + words id → IsSummed items (λ x. price + words x) (drop (k + 1) ids) all first most (total + count) last
+summed_more items words ids k all first most total steps price middle last count id s l is low high counted least paid =
     let some = sum_by-drop_more items ids k 0 l in
-    let read = sum_by-drop_more words ids k 0 l in
+    let read = sum_by-drop_more (λ x. price + words x) ids k 0 l in
     let one : count ≡ items (slice_index ids k) = counted ∙ ap items is in
     let cost = ap words is in
-    let before = length-drop k ids in
-    let after = length-drop (k + 1) ids in
-    let shorter : length (drop k ids) ≡ length (drop (k + 1) ids) + 1 = omega (arith, before, after, l) in
     let a = s.adds_up in
     let b = s.least in
     let c = s.paid in
     record {
       adds_up = omega (arith, a, some, one);
       least = omega (arith, b, low, least);
-      paid = omega (arith, c, read, cost, shorter, high, paid);
+      paid = omega (arith, c, read, cost, high, paid);
     }
 
 -- a sum with one id more fits where all do

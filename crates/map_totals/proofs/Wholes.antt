@@ -8,7 +8,7 @@ use Rattle.file_laws.specs.Contents.{Contents}
 use Rattle.file_laws.specs.Lawful.{is_whole}
 use Rattle.file_laws.proofs.FiveCounts.{counts_of_map}
 use Rattle.navigate.specs.Bound.{map_with}
-use Rattle.map_totals.specs.Totals.{face_total, node_total, adjacent_total, face_words, node_words, adjacent_words, most_face_words, most_node_words, most_adjacent_words}
+use Rattle.map_totals.specs.Totals.{face_total, node_total, adjacent_total, face_words, node_words, adjacent_words, most_face_words, most_node_words, most_adjacent_words, id_words}
 use Rattle.map_totals.proofs.Ids.{nodes_sum, faces_sum}
 use Rattle.map_totals.proofs.Few.{sum-few, faces-few, nodes-few, node-few, face-few, across-few}
 
@@ -24,33 +24,25 @@ module _ (c : Contents) (h : is_whole c ≡ true) where
   unfolding face_total
   face_total_is = sum_by-cons (λ f. length (face_edges m f)) 0 m.faces ∙ ap (λ n. length (face_edges m 0) + n) (faces_sum c h (λ f. length (face_edges m f)))
 
-  pub face_words_are : most_face_words m ≡ face_words m 0 + (sum_by (face_words m) c.faces + 2 * length c.faces)
+  pub face_words_are : most_face_words m ≡ face_words m 0 + sum_by (λ f. id_words (length c.faces) + face_words m f) c.faces
   unfolding most_face_words
-  face_words_are =
-      let all = sum_by-cons (face_words m) 0 m.faces in
-      let same = faces_sum c h (face_words m) in
-      let many = (counts_of_map c h).faces in
-      omega (arith, all, same, many)
+  face_words_are = ap (λ n. face_words m 0 + n) (faces_sum c h (λ f. id_words (length m.faces) + face_words m f) ∙ ap (λ n. sum_by (λ f. id_words n + face_words m f) c.faces) (counts_of_map c h).faces)
 
   pub node_total_is : node_total m ≡ sum_by (λ n. length (node_edges m n)) c.nodes
   unfolding node_total
   node_total_is = nodes_sum c (λ n. length (node_edges m n))
 
-  pub node_words_are : most_node_words m ≡ sum_by (node_words m) c.nodes + 2 * length c.nodes
+  pub node_words_are : most_node_words m ≡ sum_by (λ n. id_words (length c.nodes) + node_words m n) c.nodes
   unfolding most_node_words
-  node_words_are = let same = nodes_sum c (node_words m) in let many = (counts_of_map c h).nodes in omega (arith, same, many)
+  node_words_are = nodes_sum c (λ n. id_words (length m.nodes.keys) + node_words m n) ∙ ap (λ k. sum_by (λ n. id_words k + node_words m n) c.nodes) (counts_of_map c h).nodes
 
   pub adjacent_total_is : adjacent_total m ≡ length (adjacent m 0) + sum_by (λ f. length (adjacent m f)) c.faces
   unfolding adjacent_total
   adjacent_total_is = sum_by-cons (λ f. length (adjacent m f)) 0 m.faces ∙ ap (λ n. length (adjacent m 0) + n) (faces_sum c h (λ f. length (adjacent m f)))
 
-  pub adjacent_words_are : most_adjacent_words m ≡ adjacent_words m 0 + (sum_by (adjacent_words m) c.faces + 2 * length c.faces)
+  pub adjacent_words_are : most_adjacent_words m ≡ adjacent_words m 0 + sum_by (λ f. id_words (length c.faces) + adjacent_words m f) c.faces
   unfolding most_adjacent_words
-  adjacent_words_are =
-      let all = sum_by-cons (adjacent_words m) 0 m.faces in
-      let same = faces_sum c h (adjacent_words m) in
-      let many = (counts_of_map c h).faces in
-      omega (arith, all, same, many)
+  adjacent_words_are = ap (λ n. adjacent_words m 0 + n) (faces_sum c h (λ f. id_words (length m.faces) + adjacent_words m f) ∙ ap (λ n. sum_by (λ f. id_words n + adjacent_words m f) c.faces) (counts_of_map c h).faces)
 
   -- none of the totals overflows
   pub face_total_fits : face_total m < 2 ^ 63

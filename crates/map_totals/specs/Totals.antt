@@ -1,5 +1,6 @@
 -- How many items the questions on all faces and on all nodes of a map have together, and how many words they may read.
 use Rattle.std.specs.Prelude.{ℕ, ◌+◌, ◌*◌, List, ◌∷◌, length, sum_by}
+use Rattle.bit_words.specs.Digits.{digits}
 use Rattle.plane_model.specs.PlaneMap.{PlaneMap}
 use Rattle.plane_model.specs.Lists.{node_edges, face_edges, adjacent}
 use Rattle.navigate.specs.Bound.{most_words}
@@ -28,15 +29,19 @@ node_words m n = most_words m (length (node_edges m n)) (length (node_edges m n)
 abbrev pub adjacent_words : PlaneMap → ℕ → ℕ
 adjacent_words m f = most_words m (length (face_edges m f)) (length (adjacent m f))
 
--- how many all of one kind may read, with two for each id that is read before its question
+-- how many words the id of one of so many may take
+abbrev pub id_words : ℕ → ℕ
+id_words count = 3 * digits (count + 2) + 20
+
+-- how many all of one kind may read, with those of each id that is read before its question
 unfoldable pub most_face_words : PlaneMap → ℕ
-most_face_words m = sum_by (face_words m) (all_faces m) + 2 * length m.faces
+most_face_words m = face_words m 0 + sum_by (λ f. id_words (length m.faces) + face_words m f) m.faces
 
 unfoldable pub most_node_words : PlaneMap → ℕ
-most_node_words m = sum_by (node_words m) m.nodes.keys + 2 * length m.nodes.keys
+most_node_words m = sum_by (λ n. id_words (length m.nodes.keys) + node_words m n) m.nodes.keys
 
 unfoldable pub most_adjacent_words : PlaneMap → ℕ
-most_adjacent_words m = sum_by (adjacent_words m) (all_faces m) + 2 * length m.faces
+most_adjacent_words m = adjacent_words m 0 + sum_by (λ f. id_words (length m.faces) + adjacent_words m f) m.faces
 
 -- how many all of them may read
 abbrev pub most_total_words : PlaneMap → ℕ

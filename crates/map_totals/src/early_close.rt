@@ -14,11 +14,15 @@ use std::alloc::Global;
 use std::marker::Brand;
 use std::sync::ledger::{Blank, Ledger};
 use std::test::Fail;
-use topo_base::FaceId;
+use topo_base::{FaceId, IdNumber};
 
 /// The face that comes in a step of the walk round face 1 of the web.
 fn neighbour(k: u32) -> Option<FaceId> {
-    if k < 20 { Some(FaceId(2 + k)) } else { None }
+    if k < 20 {
+        Some(FaceId(IdNumber::from(2 + k)))
+    } else {
+        None
+    }
 }
 
 /// Whether the walk gives the right faces in its first steps.

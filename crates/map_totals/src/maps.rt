@@ -131,25 +131,25 @@ fn before(i: u16) -> u16 {
 /// Edge `i` of the inner ring of the web, round face 1.
 fn inner_edge(i: u16) -> EdgeRow {
     EdgeRow {
-        id: i as u32,
-        start: i as u32,
-        end: after(i) as u32,
-        next_left: after(i) as i32,
-        next_right: 40 + i as i32,
+        id: i as IdNumber,
+        start: i as IdNumber,
+        end: after(i) as IdNumber,
+        next_left: after(i) as SignedNumber,
+        next_right: 40 + i as SignedNumber,
         left_face: 1,
-        right_face: 1 + i as u32,
+        right_face: 1 + i as IdNumber,
     }
 }
 
 /// Edge `i` of the outer ring.
 fn outer_edge(i: u16) -> EdgeRow {
     EdgeRow {
-        id: 20 + i as u32,
-        start: 20 + i as u32,
-        end: 20 + after(i) as u32,
-        next_left: -(40 + after(i) as i32),
-        next_right: -(20 + before(i) as i32),
-        left_face: 1 + i as u32,
+        id: 20 + i as IdNumber,
+        start: 20 + i as IdNumber,
+        end: 20 + after(i) as IdNumber,
+        next_left: -(40 + after(i) as SignedNumber),
+        next_right: -(20 + before(i) as SignedNumber),
+        left_face: 1 + i as IdNumber,
         right_face: 0,
     }
 }
@@ -157,13 +157,13 @@ fn outer_edge(i: u16) -> EdgeRow {
 /// The edge from node `i` of the inner ring to that of the outer one.
 fn spoke(i: u16) -> EdgeRow {
     EdgeRow {
-        id: 40 + i as u32,
-        start: i as u32,
-        end: 20 + i as u32,
-        next_left: 20 + i as i32,
-        next_right: -(before(i) as i32),
-        left_face: 1 + i as u32,
-        right_face: 1 + before(i) as u32,
+        id: 40 + i as IdNumber,
+        start: i as IdNumber,
+        end: 20 + i as IdNumber,
+        next_left: 20 + i as SignedNumber,
+        next_right: -(before(i) as SignedNumber),
+        left_face: 1 + i as IdNumber,
+        right_face: 1 + before(i) as IdNumber,
     }
 }
 
@@ -178,13 +178,13 @@ fn web_edge(k: u16) -> EdgeRow {
 
 fn joined_node(id: u16) -> NodeRow {
     NodeRow {
-        id: id as u32,
+        id: id as IdNumber,
         face: None,
     }
 }
 
 fn face(id: u16) -> FaceRow {
-    FaceRow { id: id as u32 }
+    FaceRow { id: id as IdNumber }
 }
 
 fn joined_nodes(alloc: Global, count: u16) -> Result<Vec<NodeRow>, AllocError> {
@@ -210,12 +210,12 @@ pub fn web_image(alloc: Global) -> Result<Vec<u8>, Fail> {
 /// A closed edge in face 1, or round it.
 fn closed_edge(id: u16) -> EdgeRow {
     EdgeRow {
-        id: id as u32,
-        start: id as u32,
-        end: id as u32,
-        next_left: id as i32,
-        next_right: -(id as i32),
-        left_face: id as u32,
+        id: id as IdNumber,
+        start: id as IdNumber,
+        end: id as IdNumber,
+        next_left: id as SignedNumber,
+        next_right: -(id as SignedNumber),
+        left_face: id as IdNumber,
         right_face: if id == 1 { 0 } else { 1 },
     }
 }

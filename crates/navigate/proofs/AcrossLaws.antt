@@ -1,5 +1,5 @@
 -- The faces across the edges of a face, by places and by ids, and what their walk reads.
-use Rattle.std.specs.Prelude.{ℤ, not, filter, map, ◌==◌}
+use Rattle.std.specs.Prelude.{not, map, ◌==◌}
 use Rattle.std.proofs.Common.{◌≡◌, ℕ, ◌+◌, ◌*◌, ◌<◌, ◌≤◌, inl, inr, true, List, [], ◌∷◌, length, refl, ap, sym, ◌∙◌, arith}
 use Rattle.std.proofs.lemmas.Bool.{cases_lt, eqb-true, eq-eqb, or_cases, or_left, or_right}
 use Rattle.std.proofs.Math.Nat.{mul-le-mul_left}
@@ -10,7 +10,6 @@ use Rattle.plane_model.specs.Sets.{has, first_occurrences, first_occurrences_but
 use Rattle.plane_model.specs.PlaneMap.{PlaneMap, side}
 use Rattle.plane_model.specs.Lists.{face_edges, adjacent}
 use Rattle.code_laws.specs.Code.{mate}
-use Rattle.code_laws.specs.Laws.{MateLaws}
 use Rattle.code_laws.proofs.Mates.{mate_laws}
 use Rattle.file_laws.specs.Contents.{Contents}
 use Rattle.file_laws.specs.MapOfFile.{signed_at, face_at, face_at_place}

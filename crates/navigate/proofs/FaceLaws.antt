@@ -1,12 +1,11 @@
 -- How a walk along the rings of a face goes on.
 use Rattle.std.specs.Prelude.{drop, take, map, slice_index}
-use Rattle.std.proofs.Common.{◌≡◌, ℕ, zero, suc, ◌+◌, ◌-◌, ◌*◌, ◌<◌, ◌≤◌, ℤ, Bool, false, true, length-append, List, [], ◌∷◌, ◌++◌, length, refl, ap, sym, ◌∙◌, arith, subst}
-use Rattle.std.proofs.Math.Nat.{mul-le-mul_left}
+use Rattle.std.proofs.Common.{◌≡◌, ℕ, zero, suc, ◌+◌, ◌-◌, ◌*◌, ◌<◌, ◌≤◌, ℤ, Bool, false, List, [], ◌∷◌, ◌++◌, length, refl, ap, sym, ◌∙◌, arith}
 use Rattle.code_laws.specs.Code.{Code, start_of, step}
 use Rattle.code_laws.specs.Orbits.{orbit}
 use Rattle.file_laws.specs.Contents.{Contents}
 use Rattle.file_laws.specs.MapOfFile.{signed_at}
-use Rattle.navigate.specs.Bound.{line_digits, line_words}
+use Rattle.navigate.specs.Bound.{line_digits}
 use Rattle.navigate.specs.Holes.{components_between, outer_positions}
 use Rattle.navigate.specs.OrbitWalk.{positions_left}
 use Rattle.navigate.specs.FaceWalk.{contents_in, face_positions, rest, price, allowance, pass_price}

@@ -1,7 +1,7 @@
 -- What is known of whole contents: their sizes, and which ids their map has.
-use Rattle.std.specs.Prelude.{ℤ, ◌≢◌, not, map, filter, slice_index, slice_index_or, neg_ℤ, nat_le, is_some, option_map, find, unwrap_or, IsTrue, IsNone, MatchOption, if◌then◌else◌, ◌↔◌, ◌/◌, ◌||◌}
-use Rattle.std.proofs.Common.{◌≡◌, ℕ, zero, suc, ◌+◌, ◌*◌, ◌-◌, ◌<◌, ◌≤◌, inl, inr, Bool, true, false, List, [], ◌∷◌, length, refl, ap, sym, ◌∙◌, arith, subst, Option, Some, None, ◌==◌, pos, negsuc}
-use Rattle.std.proofs.lemmas.Bool.{cases_Bool, cases_eq, eq-eqb, ne_eqb, leb-true, le-leb, and_from, false_from_ne_true}
+use Rattle.std.specs.Prelude.{ℤ, ◌≢◌, not, map, filter, slice_index, slice_index_or, neg_ℤ, nat_le, nat_lt, is_some, option_map, find, unwrap_or, IsTrue, IsNone, MatchOption, if◌then◌else◌, ◌↔◌, ◌||◌}
+use Rattle.std.proofs.Common.{◌≡◌, ℕ, suc, ◌+◌, ◌*◌, ◌-◌, ◌<◌, ◌≤◌, inl, inr, Bool, true, false, List, [], ◌∷◌, length, refl, ap, sym, ◌∙◌, arith, subst, Option, Some, None, ◌==◌, pos, negsuc}
+use Rattle.std.proofs.lemmas.Bool.{cases_Bool, cases_eq, eq-eqb, ne_eqb, leb-true, le-leb, lt-ltb, and_from, false_from_ne_true}
 use mathlib.Core.Bool.{beq}
 use Rattle.bit_words.specs.Digits.{digits}
 use Rattle.bit_words.proofs.DigitLaws.{digits-mono}
@@ -11,7 +11,6 @@ use Rattle.plane_model.specs.declared.rows.NodeRow.{NodeRow}
 use Rattle.plane_model.specs.declared.rows.EdgeRow.{EdgeRow}
 use Rattle.plane_model.specs.declared.rows.FaceRow.{FaceRow}
 use Rattle.plane_model.specs.Sets.{has, rising}
-use Rattle.plane_model.specs.PlaneMap.{PlaneMap, map_of}
 use Rattle.plane_model.specs.Rotation.{is_face}
 use Rattle.plane_model.specs.Answers.{has_node, has_signed_edge}
 use Rattle.plane_model.specs.Consistent.{size}
@@ -25,7 +24,7 @@ use Rattle.code_laws.proofs.Sound.{sound_parts}
 use Rattle.code_laws.proofs.Selects.{first_is}
 use Rattle.id_names.specs.Names.{is_id, number_of}
 use Rattle.file_laws.specs.Contents.{Contents, component_count}
-use Rattle.file_laws.specs.MapOfFile.{signed_at, is_forward_at, node_row, edge_row, face_at_place, rows_of_contents}
+use Rattle.file_laws.specs.MapOfFile.{signed_at, node_row, edge_row, face_at_place, rows_of_contents}
 use Rattle.file_laws.specs.Lawful.{is_whole, has_sizes, size_tests, whole_tests}
 use Rattle.file_laws.proofs.Lists.{has-index, index-has}
 use Rattle.file_laws.proofs.Agreement.{test_at, agrees}
@@ -116,6 +115,16 @@ module _ (c : Contents) (h : is_whole c ≡ true) where
   unfolding has_sizes
   few_components = leb-true _ _ (test_at (size_tests c) 8 sizes)
 
+  -- no more than fit into the code's numbers
+  pub few_nodes : length c.nodes ≤ 16777216
+  few_nodes = w.sizes.few_nodes
+
+  pub few_edges : length c.edges ≤ 16777216
+  few_edges = w.sizes.few_edges
+
+  pub few_faces : length c.faces ≤ 16777216
+  few_faces = let s = w.sizes.faces in omega (arith, s, few_edges)
+
   pub forward_many : length c.forward ≡ length c.edges
   unfolding has_sizes
   forward_many = Rattle.std.proofs.lemmas.Bool.eqb-true _ _ (test_at (size_tests c) 2 sizes)
@@ -136,8 +145,8 @@ module _ (c : Contents) (h : is_whole c ≡ true) where
       let many : length k.a ≡ length c.code.a = ap (λ (x : Code). length x.a) same in
       no_such_edge k number (length c.edges) o e none l (many ∙ s)
 
-  pub id_ok : (e id : ℕ) → e < length c.edges → id ≡ slice_index c.edges e → IsTrue (is_id id)
-  id_ok e id l is = let r = w.edge_names.in_range e l in and_from (nat_le 1 id) (nat_le id LARGEST_ID) (le-leb 1 id (omega (arith, is, r.0))) (le-leb id LARGEST_ID (omega (arith, is, r.1)))
+  pub id_ok : (e id : ℕ) → e < length c.edges → id ≡ slice_index c.edges e → IsTrue (is_id (LARGEST_ID + 1) id)
+  id_ok e id l is = let r = w.edge_names.in_range e l in and_from (nat_le 1 id) (nat_lt id (LARGEST_ID + 1)) (le-leb 1 id (omega (arith, is, r.0))) (lt-ltb id (LARGEST_ID + 1) (omega (arith, is, r.1)))
 
   -- the first position of an edge, and its mate
   pub first_edge : (k : Code) (number first : ℕ) (b : Bool) (d : ℤ) → k ≡ c.code → Some first ≡ first_of_edge k number → b ≡ slice_index_or c.forward number false → slice_index c.edges number ≡ edges.edge_of d

@@ -1,7 +1,7 @@
 -- The holes and the shell of a face, by positions.
-use Rattle.std.specs.Prelude.{ℤ, not, map, filter, flat_map, find, slice_index, drop, take, option_map, if◌then◌else◌, ◌&&◌}
-use Rattle.std.specs.List.{range_with_len, list_all, list_any, IsDistinct, AllByRecursion}
-use Rattle.std.proofs.Common.{◌≡◌, ℕ, zero, suc, ◌+◌, ◌-◌, ◌<◌, ◌≤◌, inl, inr, Bool, true, false, eqb, List, [], ◌∷◌, ◌++◌, length, get_or, refl, ap, sym, ◌∙◌, arith, subst, Option, Some, None, ◌==◌}
+use Rattle.std.specs.Prelude.{ℤ, not, map, flat_map, slice_index, if◌then◌else◌, ◌&&◌}
+use Rattle.std.specs.List.{range_with_len, list_all, list_any, AllByRecursion}
+use Rattle.std.proofs.Common.{◌≡◌, ℕ, zero, suc, ◌+◌, ◌-◌, ◌<◌, ◌≤◌, inl, inr, Bool, true, false, eqb, List, [], ◌∷◌, ◌++◌, length, get_or, refl, ap, sym, ◌∙◌, arith, subst, Some, ◌==◌}
 use Rattle.std.proofs.lemmas.Bool.{cases_Bool, cases_lt, cases_eq, cases_order, or_cases, or_parts, and_parts, and_from, eqb-true, eq-eqb, ne_eqb, both_ways, false_from_ne_true}
 use Rattle.std.proofs.lemmas.List.{get_or_default, map-append}
 use Rattle.std.proofs.lemmas.Map.Keys.{IsDistinct-from_apart, IsDistinct-cons}
@@ -12,13 +12,12 @@ use Rattle.topo_base.specs.SignedEdge.{comes_before}
 use Rattle.plane_model.specs.Sets.{has_edge}
 use Rattle.plane_model.specs.Orders.{is_rising_edges}
 use Rattle.plane_model.specs.PlaneMap.{PlaneMap, signed_edges, smallest, side, ring, rings}
-use Rattle.plane_model.specs.Faces.{is_outer, outer_rings}
+use Rattle.plane_model.specs.Faces.{is_outer}
 use Rattle.plane_model.specs.Lists.{holes, shell, ring_if_some}
 use Rattle.plane_model.proofs.SetLaws.{same_edges}
 use Rattle.plane_model.proofs.SortedEdges.{before_rank, rising_filter, same_rising_edges}
 use Rattle.plane_model.proofs.OneOuterRing.{placed_map, placed_shells, one_shell, IsPlacedMap}
-use Rattle.plane_model.proofs.OuterRings.{Shells}
-use Rattle.placement_laws.proofs.Parts.{HasParts, parts_of, ring_name-there, ring_name-on}
+use Rattle.placement_laws.proofs.Parts.{parts_of, ring_name-there, ring_name-on}
 use Rattle.placement_laws.proofs.Lists.{find_one}
 use Rattle.code_laws.specs.Code.{start_of}
 use Rattle.code_laws.specs.Numbers.{ring_of}

@@ -1,9 +1,8 @@
 -- What lies in a face, by the order of the file.
-use Rattle.std.specs.Prelude.{ℤ, map, filter, slice_index, take, drop, nat_lt}
+use Rattle.std.specs.Prelude.{ℤ, map, filter, slice_index, nat_lt}
 use Rattle.std.specs.List.{range_with_len, list_all}
-use Rattle.std.proofs.Common.{◌≡◌, ℕ, zero, suc, ◌+◌, ◌-◌, ◌*◌, ◌<◌, ◌≤◌, inl, inr, Bool, true, false, List, [], ◌∷◌, ◌++◌, length, refl, ap, sym, ◌∙◌, arith, subst, Option, Some, None, ◌==◌, length-append}
+use Rattle.std.proofs.Common.{◌≡◌, ℕ, zero, suc, ◌+◌, ◌-◌, ◌*◌, ◌<◌, ◌≤◌, inl, inr, Bool, true, false, List, [], ◌∷◌, ◌++◌, length, refl, ap, sym, ◌∙◌, arith, subst, Some, None, ◌==◌}
 use Rattle.std.proofs.lemmas.Bool.{cases_lt, and_from, and_parts, eqb-true, eq-eqb, le-ltb, lt-ltb, or_left, or_right, or_cases, both_ways}
-use Rattle.std.proofs.lemmas.List.{length-map}
 use Rattle.orbits.proofs.Lists.{same_tests, from_filter, in_filter}
 use Rattle.orbits.proofs.Numbers.{same_numbers}
 use Rattle.topo_base.specs.Script.{Item}
@@ -18,17 +17,15 @@ use Rattle.file_laws.specs.MapOfFile.{signed_at, face_at_place, joined_count}
 use Rattle.file_laws.specs.Faults.{isolated_id}
 use Rattle.file_laws.specs.Lawful.{is_whole}
 use Rattle.navigate.specs.Bound.{map_with, line_digits, line_words}
-use Rattle.navigate.specs.Holes.{components_between}
 use Rattle.navigate.specs.IslandWalk.{contents_in, hole_edges, nodes_between, items_between, rest, price, allowance}
 use Rattle.navigate.specs.declared.inside.IslandWalk.{IslandWalk}
 use Rattle.std.proofs.Math.Nat.{mul-le-mul_left}
 use Rattle.plane_model.specs.declared.rows.NodeRow.{NodeRow}
 use Rattle.plane_model.specs.Rows.{Rows}
-use Rattle.plane_model.specs.Consistent.{is_consistent}
 use Rattle.plane_model.specs.Sets.{is_distinct}
 use Rattle.plane_model.proofs.Sorting.{rising_strictly, same_strictly}
 use Rattle.file_laws.specs.MapOfFile.{rows_of_contents}
-use Rattle.file_laws.proofs.Consistent.{consistent_of, rotation_of}
+use Rattle.file_laws.proofs.Consistent.{rotation_of}
 use Rattle.file_laws.proofs.Rotation.{face_of, node_key, node_keys_from}
 use Rattle.navigate.proofs.Facts.{w}
 use Rattle.navigate.proofs.OrbitLengths.{some_digits}

@@ -1,27 +1,23 @@
 -- The lists of the map by positions.
 use Rattle.std.specs.Prelude.{ℤ, map, filter, slice_index, option_map, find, ◌==◌}
-use Rattle.std.proofs.Common.{◌≡◌, ℕ, zero, suc, ◌+◌, ◌-◌, ◌<◌, ◌≤◌, inl, inr, Bool, true, false, List, [], ◌∷◌, length, refl, ap, sym, ◌∙◌, arith, subst, Option, Some, None}
-use Rattle.std.proofs.lemmas.Bool.{cases_Bool, cases_lt, eqb-true, eq-eqb, or_left, or_right, or_cases, le-ltb, lt-ltb}
-use Rattle.orbits.proofs.Lists.{same_tests, from_filter, in_filter}
+use Rattle.std.proofs.Common.{◌≡◌, ℕ, ◌<◌, ◌≤◌, inl, inr, true, false, List, [], ◌∷◌, length, refl, ap, sym, ◌∙◌, arith, subst, Some}
+use Rattle.std.proofs.lemmas.Bool.{cases_Bool, eqb-true, or_left, or_right, or_cases}
+use Rattle.orbits.proofs.Lists.{same_tests, from_filter}
 use Rattle.topo_base.specs.SignedEdge.{comes_before, reverse}
-use Rattle.plane_model.specs.Sets.{has_edge, or_else}
-use Rattle.plane_model.specs.Orders.{IsSmallest}
-use Rattle.plane_model.specs.PlaneMap.{PlaneMap, signed_edges, smallest, origin, head, side, next as next_edge, leaving, ring, round}
-use Rattle.plane_model.specs.Rotation.{node_face}
-use Rattle.plane_model.specs.Lists.{node_edges, round_from_first, containing, face_round}
-use Rattle.plane_model.specs.Faces.{outer_ring}
+use Rattle.plane_model.specs.Sets.{has_edge}
+use Rattle.plane_model.specs.PlaneMap.{PlaneMap, signed_edges, smallest, origin, side, next as next_edge, leaving, ring, round}
+use Rattle.plane_model.specs.Lists.{node_edges, round_from_first}
 use Rattle.plane_model.specs.Orders.{is_rising_edges}
 use Rattle.plane_model.proofs.SetLaws.{same_edges, same_self}
-use Rattle.plane_model.proofs.SortedEdges.{find_smallest, smallest_found, smallest_least, smallest-same, rising_filter}
+use Rattle.plane_model.proofs.SortedEdges.{smallest_found, smallest_least, smallest-same, rising_filter}
 use Rattle.plane_model.proofs.NodeRounds.{round_leaves}
 use Rattle.plane_model.proofs.RotationOrbits.{turn_permutes}
-use Rattle.code_laws.specs.Code.{component_of, start_of, mate, next}
+use Rattle.code_laws.specs.Code.{mate, next}
 use Rattle.code_laws.specs.Numbers.{node_of, node_count}
 use Rattle.code_laws.specs.Orbits.{orbit}
-use Rattle.code_laws.proofs.Numbered.{node-beside}
 use Rattle.code_laws.proofs.Selects.{node_within}
-use Rattle.file_laws.specs.Contents.{Contents, component_count}
-use Rattle.file_laws.specs.MapOfFile.{signed_at, node_at, face_at, face_at_place, place_of_ring, joined_count, rows_of_contents}
+use Rattle.file_laws.specs.Contents.{Contents}
+use Rattle.file_laws.specs.MapOfFile.{signed_at, node_at, face_at, joined_count, rows_of_contents}
 use Rattle.file_laws.specs.Agreement.{Agrees}
 use Rattle.file_laws.specs.Lawful.{is_whole}
 use Rattle.file_laws.proofs.Agreement.{agrees}
@@ -29,7 +25,7 @@ use Rattle.file_laws.proofs.Consistency.{position_of, leaves_head}
 use Rattle.file_laws.proofs.Fits.{components_same, node_in}
 use Rattle.file_laws.proofs.Whole.{WholeParts, whole_parts}
 use Rattle.file_laws.proofs.Orbits.{ring-orbit, round-orbit, round_from}
-use Rattle.file_laws.proofs.Rotation.{rotation, signed_rise, at_leaves, face_of}
+use Rattle.file_laws.proofs.Rotation.{rotation, signed_rise, at_leaves}
 use Rattle.navigate.specs.Bound.{map_with}
 use Rattle.navigate.specs.Least.{least, smallest_of, from_smallest}
 

@@ -1,6 +1,6 @@
 -- The face that contains a node.
-use Rattle.std.specs.Prelude.{ℤ, map, slice_index, option_map, nat_lt, find, ◌==◌}
-use Rattle.std.proofs.Common.{◌≡◌, ℕ, ◌+◌, ◌-◌, ◌<◌, ◌≤◌, true, false, List, [], ◌∷◌, length, refl, ap, sym, ◌∙◌, arith, subst, Option, Some, None}
+use Rattle.std.specs.Prelude.{ℤ, slice_index, option_map, find, ◌==◌}
+use Rattle.std.proofs.Common.{◌≡◌, ℕ, ◌-◌, ◌<◌, ◌≤◌, true, false, List, [], ◌∷◌, length, refl, ap, sym, ◌∙◌, arith, subst, Some, None}
 use Rattle.std.proofs.lemmas.Bool.{le-ltb, lt-ltb, or_left, eqb-true}
 use Rattle.std.specs.List.{range_with_len}
 use Rattle.bit_words.proofs.Finds.{least-find}
@@ -25,7 +25,7 @@ use Rattle.file_laws.proofs.Rotation.{at_leaves, face_of}
 use Rattle.file_laws.proofs.Placed.{start_in, start_component}
 use Rattle.file_laws.proofs.Positions.{outer_at}
 use Rattle.navigate.specs.Bound.{map_with}
-use Rattle.navigate.proofs.MapLists.{Leaves, leaves_at, side_at}
+use Rattle.navigate.proofs.MapLists.{leaves_at, side_at}
 
 -- the first position of a node leaves it
 pub first_node : (c : Contents) (k : Code) (n p : ℕ) → k ≡ c.code → Some p ≡ first_of_node k n → node_of c.code p ≡ n

@@ -1,7 +1,7 @@
 -- First occurrences of numbers: none stands twice, and names that differ carry them.
-use Rattle.std.specs.Prelude.{not, filter, map, ◌==◌, ◌||◌}
+use Rattle.std.specs.Prelude.{not, map, ◌==◌, ◌||◌}
 use Rattle.std.specs.List.{range_with_len}
-use Rattle.std.proofs.Common.{◌≡◌, ℕ, ◌+◌, ◌<◌, ◌≤◌, inl, inr, Bool, true, false, List, [], ◌∷◌, length, refl, ap, sym, ◌∙◌, arith, subst}
+use Rattle.std.proofs.Common.{◌≡◌, ℕ, ◌+◌, ◌≤◌, inl, inr, true, false, List, [], ◌∷◌, length, refl, ap, sym, ◌∙◌, arith, subst}
 use Rattle.std.proofs.lemmas.Bool.{cases_Bool, eqb-true, eq-eqb, ne_eqb, eqb-false, or_cases, or_left, or_right, and_from, both_ways}
 use Rattle.std.proofs.lemmas.List.FromFn.{length-range_with_len}
 use Rattle.orbits.proofs.Numbers.{same_numbers, in_range}

@@ -1,17 +1,13 @@
 -- Components and isolated nodes in the order of their places.
-use Rattle.std.specs.Prelude.{ℤ, not, find, nat_lt, nat_le, map, slice_index, option_map, ◌&&◌, ◌||◌, if◌then◌else◌, drop, take}
-use Rattle.std.specs.List.{range_with_len, list_all}
-use Rattle.std.proofs.Common.{◌≡◌, ◌≢◌, ℕ, zero, suc, ◌+◌, ◌-◌, ◌*◌, ◌/◌, ◌<◌, ◌≤◌, ◌⊎◌, inl, inr, Bool, true, false, List, [], ◌∷◌, length, get_or, refl, ap, sym, ◌∙◌, arith, subst, Option, Some, None, ◌==◌}
-use Rattle.std.proofs.lemmas.Bool.{cases_Bool, cases_lt, cases_eq, and_parts, and_from, or_cases, or_parts, eqb-true, eq-eqb, ne_eqb, ltb-true, lt-ltb, not-false, both_ways, false_from_ne_true}
-use Rattle.std.proofs.lemmas.Bool as bools
-use Rattle.orbits.proofs.Numbers.{same_numbers}
+use Rattle.std.specs.Prelude.{ℤ, not, find, nat_lt, slice_index, option_map, ◌&&◌, if◌then◌else◌}
+use Rattle.std.specs.List.{range_with_len}
+use Rattle.std.proofs.Common.{◌≡◌, ℕ, zero, suc, ◌+◌, ◌-◌, ◌/◌, ◌<◌, ◌≤◌, ◌⊎◌, inl, inr, Bool, true, false, length, ap, sym, ◌∙◌, arith, subst, None, ◌==◌}
+use Rattle.std.proofs.lemmas.Bool.{cases_eq, and_parts, or_cases, eqb-true, ne_eqb, ltb-true, not-false}
 use Rattle.bit_words.specs.Digits.{digits}
-use Rattle.bit_words.proofs.DigitLaws.{digits-halved, digits-mono}
+use Rattle.bit_words.proofs.DigitLaws.{digits-halved}
 use Rattle.bit_words.proofs.Finds.{none-find}
 use Rattle.topo_base.specs.SignedEdge.{comes_before}
-use Rattle.plane_model.specs.Sets.{has, is_distinct}
-use Rattle.plane_model.specs.Orders.{is_rising_edges, is_strictly_rising}
-use Rattle.plane_model.proofs.SortedEdges.{before_rank, before_from, rank}
+use Rattle.plane_model.proofs.SortedEdges.{before_rank, before_from}
 use Rattle.code_laws.specs.Code.{start_of}
 use Rattle.file_laws.specs.Contents.{Contents, component_count}
 use Rattle.file_laws.specs.MapOfFile.{signed_at}
@@ -19,10 +15,8 @@ use Rattle.file_laws.specs.Faults.{place_fault, order_fault, isolated_fault, pla
 use Rattle.file_laws.specs.Lawful.{is_whole, whole_tests}
 use Rattle.file_laws.specs.declared.fault.FileFault.TheVariants as fault
 use Rattle.file_laws.proofs.Lengths.{first_none, none-is_none}
-use Rattle.file_laws.proofs.Lists.{has-index, index-has}
 use Rattle.file_laws.proofs.Agreement.{test_at}
 use Rattle.file_laws.proofs.Whole.{option_none}
-use Rattle.navigate.specs.Bound.{line_digits}
 use Rattle.navigate.specs.Holes.{place_at}
 use Rattle.navigate.proofs.Facts.{w}
 

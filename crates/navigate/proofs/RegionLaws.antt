@@ -86,6 +86,11 @@ module _ (c : Contents) (h : is_whole c ≡ true) where
       let b : length v.bits ≡ length c.region_bits = ap (λ (r : Regions). length r.bits) same in
       digits-mono _ _ (omega (arith, s, b))
 
+  pub digits_ids : (v : Regions) → v ≡ regions_in c → digits (length v.ids + 2) ≤ line_digits c
+  digits_ids v same =
+      let long : length v.ids ≡ length c.regions = ap (λ (r : Regions). length r.ids) same in
+      digits-mono _ _ (omega (arith, long))
+
   -- a face has its entry among the members
   pub place_in : (v : Regions) (place : ℕ) → v ≡ regions_in c → place ≤ length c.faces → place < length v.members
   place_in v place same l =
@@ -145,7 +150,7 @@ module _ (c : Contents) (h : is_whole c ≡ true) where
       ∙ ap (λ o. find (has (regions.upward n m o)) (regions.upward n m (Some (slice_index c.regions x)))) (member_is v (Some y) second same two within_second))
 
 -- reading a region's id and finding its parent is paid for
-pub up_paid : (c : Contents) (xs ys : List ℕ) (id first last : ℕ) → xs ≡ id ∷ ys → last ≤ first + (7 * line_digits c + 63) → last + price c * length ys ≤ first + price c * length xs
+pub up_paid : (c : Contents) (xs ys : List ℕ) (id first last : ℕ) → xs ≡ id ∷ ys → last ≤ first + (10 * line_digits c + 81) → last + price c * length ys ≤ first + price c * length xs
 up_paid c xs ys id first last e h =
     let more : price c * suc (length ys) ≡ price c * length ys + price c = omega arith in
     let all : price c * length xs ≡ price c * length ys + price c = ap (λ zs. price c * length zs) e ∙ more in
@@ -163,7 +168,7 @@ walk_fits c v first last same h =
     omega (arith, walk, each, two, h)
 
 -- what two faces share is paid for
-pub shared_fits : (c : Contents) (n first last : ℕ) → last ≤ first + (42 * line_digits c + 256) → last ≤ first + line_words c 0 n
+pub shared_fits : (c : Contents) (n first last : ℕ) → last ≤ first + (45 * line_digits c + 274) → last ≤ first + line_words c 0 n
 shared_fits c n first last h =
     let d = line_digits c in
     let two = some_digits c in

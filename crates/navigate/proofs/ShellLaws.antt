@@ -1,13 +1,12 @@
 -- The walk along the rings of a face, made.
-use Rattle.std.specs.Prelude.{ℤ, map, flat_map, find, IsNone, if◌then◌else◌, ◌↔◌, ◌++◌}
+use Rattle.std.specs.Prelude.{map, find, IsNone, if◌then◌else◌, ◌↔◌, ◌++◌}
 use Rattle.std.specs.List.{range_with_len}
 use Rattle.std.proofs.Common.{◌≡◌, ℕ, ◌+◌, ◌-◌, ◌*◌, ◌<◌, ◌≤◌, Bool, true, false, List, [], length, refl, ap, sym, ◌∙◌, arith, subst, Option, Some, None, ◌==◌, length-append}
 use Rattle.std.proofs.lemmas.Bool.{eqb-true}
 use Rattle.std.proofs.lemmas.List.{length-map, map-append}
 use Rattle.std.proofs.Math.Nat.{mul-le-mul_left}
 use Rattle.bit_words.proofs.Finds.{least-find}
-use Rattle.plane_model.specs.PlaneMap.{ring}
-use Rattle.plane_model.specs.Lists.{face_edges, shell, ring_if_some, holes}
+use Rattle.plane_model.specs.Lists.{face_edges, shell, ring_if_some}
 use Rattle.code_laws.specs.Code.{Code}
 use Rattle.code_laws.specs.Numbers.{ring_of, first_of_shell, is_shell, shell_count}
 use Rattle.code_laws.specs.Orbits.{orbit}

@@ -21,7 +21,7 @@ rest w = ids_up (contents_in w) w.next
 
 -- what reading a region's id and finding its parent cost at most
 abbrev pub price : Contents → ℕ
-price c = 7 * line_digits c + 63
+price c = 10 * line_digits c + 81
 
 -- how many words it still reads at most
 unfoldable pub allowance : RegionWalk → ℕ

@@ -43,7 +43,7 @@ fn common_at<C: Ledger>(
     requires second { second ≤ length (contents_of_view served).faces }
     ensures region { option_map (λ r. r.0) result ≡ common_region (served_map served.entry) (face_at_place (contents_of_view served.entry) first) (face_at_place (contents_of_view served.entry) second) }
     ensures some_steps { steps.old + 1 ≤ steps.new }
-    ensures cost { steps.new ≤ steps.old + (18 * line_digits (contents_of_view served.entry) + 136) }
+    ensures cost { steps.new ≤ steps.old + (21 * line_digits (contents_of_view served.entry) + 154) }
 {
     let regions = served.regions();
     let one = regions.of_face(first, steps)?;

@@ -1,4 +1,5 @@
-use Rattle.std.proofs.Common.{◌≡◌, ◌∷◌, ℕ, List, rules, subst, sym, ap, ◌∙◌}
+use Rattle.std.proofs.Common.{◌+◌, ◌≡◌, ◌∷◌, ℕ, List, rules, subst, sym, ap, ◌∙◌}
+use Rattle.topo_base.specs.declared.id.TheConstants.{LARGEST_ID}
 use Rattle.id_names.specs.Names.{AreDistinctIds}
 use Rattle.std.specs.Prelude.{map}
 use Rattle.plane_model.specs.Rows.{rows_of}
@@ -8,7 +9,7 @@ use Rattle.map_build.proofs.Placing as placing
 use Rattle.map_build.proofs.building.place.Goals as goal
 
 pub new-requires-clause-names : goal.new-requires-clause-names
-new-requires-clause-names c = subst AreDistinctIds (sym (c.requires.faces ∙ placing.faces_are (rows_of c.args.tables.now) c.requires.in_range c.requires.consistent c.args.walked.now c.requires.walk)) (placing.face_names (rows_of c.args.tables.now) c.requires.in_range c.requires.consistent c.args.walked.now c.requires.walk)
+new-requires-clause-names c = subst (AreDistinctIds (LARGEST_ID + 1)) (sym (c.requires.faces ∙ placing.faces_are (rows_of c.args.tables.now) c.requires.in_range c.requires.consistent c.args.walked.now c.requires.walk)) (placing.face_names (rows_of c.args.tables.now) c.requires.in_range c.requires.consistent c.args.walked.now c.requires.walk)
 
 pub new-requires-clause-few : goal.new-requires-clause-few
 new-requires-clause-few c = placing.few_given (rows_of c.args.tables.now) c.requires.in_range c.requires.consistent c.args.walked.now c.requires.walk c.args.faces.now c.requires.faces

@@ -5,4 +5,4 @@ use Rattle.map_build.specs.Made.{contents_of_map}
 use Rattle.map_build.proofs.laws.one_image.Goals as goal
 
 pub returns : goal.returns
-returns c = λ t u same. ap (λ (m : PlaneMap). image_of (contents_of_map m)) same.2
+returns c = λ form t u same. ap (λ (m : PlaneMap). image_of form (contents_of_map m)) same.2

@@ -24,4 +24,4 @@ returns c =
     let keys = map (key_of_dart c.args.edges.now) c.args.starts.now in
     let moved : IsPermutation (placed_components places keys) c.in_order.result.items = subst (λ ss. IsPermutation ss c.in_order.result.items) c.in_ok-standing.ensures c.in_order.ensures.permutation in
     let all = ordered places keys c.in_order.result.items moved c.in_order.ensures.order in
-    IfOk-weaker c.standing_names.result _ _ (λ order is. subst (λ xs. AreOrdered places keys xs) (ap (map (λ (s : Standing). s.name)) (sym c.deref.ensures.value) ∙ sym is) all) c.standing_names.ensures
+    IfOk-weaker c.standing_components.result _ _ (λ order is. subst (λ xs. AreOrdered places keys xs) (ap (map (λ (s : Standing). s.component)) (sym c.deref.ensures.value) ∙ sym is) all) c.standing_components.ensures

@@ -7,7 +7,7 @@ use Rattle.plane_model.specs.declared.rows.EdgeRow.{EdgeRow}
 use Rattle.plane_model.specs.PlaneMap.{no_edge}
 use Rattle.map_build.proofs.rows.edge_key.Goals as goal
 
-small : (edges : List EdgeRow) (i : ℕ) → list_all (λ e. nat_le e.id LARGEST_ID) edges ≡ true → i < length edges → (unwrap_or (slice_get edges i) no_edge).id ≤ 2147483647
+small : (edges : List EdgeRow) (i : ℕ) → list_all (λ e. nat_le e.id LARGEST_ID) edges ≡ true → i < length edges → (unwrap_or (slice_get edges i) no_edge).id ≤ LARGEST_ID
 small [] i h l = absurd (omega (arith, l))
 small (e ∷ es) zero h l = leb-true e.id LARGEST_ID (and_parts (nat_le e.id LARGEST_ID) (list_all (λ e. nat_le e.id LARGEST_ID) es) h).0
 small (e ∷ es) (suc i) h l = small es i (and_parts (nat_le e.id LARGEST_ID) (list_all (λ e. nat_le e.id LARGEST_ID) es) h).1 (omega (arith, l))

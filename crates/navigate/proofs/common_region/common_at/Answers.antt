@@ -2,7 +2,7 @@ use Rattle.std.proofs.Common.{arith, ap, sym, ◌∙◌, Some}
 use Rattle.std.specs.Prelude.{option_map, slice_index}
 use Rattle.pemb_file.specs.Served.{contents_of_view}
 use Rattle.region_tree.specs.RegionView.{regions_of}
-use Rattle.navigate.proofs.RegionLaws.{place_in, digits_tree, none_first, none_second, shared}
+use Rattle.navigate.proofs.RegionLaws.{place_in, digits_tree, digits_ids, none_first, none_second, shared}
 use Rattle.navigate.proofs.common_region.common_at.Goals as goal
 
 pub of_face-requires : goal.of_face-requires
@@ -44,4 +44,5 @@ returns-clause-region g c =
 pub returns-clause-cost : goal.returns-clause-cost
 returns-clause-cost g c =
     let d = digits_tree (contents_of_view c.args.served) c.args.served.whole (regions_of c.regions-regions.result) c.regions-regions.ensures in
-    omega (arith, d, c.of_face.ensures.cost, c.of_face-2.ensures.cost, c.common.ensures.cost, c.id_of.ensures.cost)
+    let k = digits_ids (contents_of_view c.args.served) c.args.served.whole (regions_of c.regions-regions.result) c.regions-regions.ensures in
+    omega (arith, d, k, c.of_face.ensures.cost, c.of_face-2.ensures.cost, c.common.ensures.cost, c.id_of.ensures.cost)

@@ -1,4 +1,4 @@
-use Rattle.std.proofs.Common.{arith, length, ap, ◌∙◌}
+use Rattle.std.proofs.Common.{arith, length}
 use Rattle.pemb_file.specs.Served.{contents_of_view}
 use Rattle.navigate.specs.FaceWalk.{rest}
 use Rattle.navigate.proofs.Facts.{words_line}

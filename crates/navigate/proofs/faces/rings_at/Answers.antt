@@ -1,7 +1,8 @@
-use Rattle.std.proofs.Common.{arith, ◌+◌, ◌*◌, ◌≤◌}
+use Rattle.std.proofs.Common.{arith, ◌+◌, ◌*◌}
 use Rattle.navigate.specs.Bound.{line_digits}
 use Rattle.pemb_file.specs.Served.{contents_of_view}
 use Rattle.navigate.specs.Holes.{components_between, outer_positions}
+use Rattle.navigate.proofs.Facts.{few_faces}
 use Rattle.navigate.proofs.HoleLaws.{AreAt, in_order}
 use Rattle.navigate.proofs.ShellLaws.{face_list, face_longer}
 use Rattle.navigate.proofs.faces.rings_at.Goals as goal
@@ -25,3 +26,6 @@ returns-clause-cost g c =
     let cost = face_longer m c.args.served.whole c.settled.result c.shell_walk-ring.result (outer_positions m (components_between m c.components_below-hole.result c.components_below-end.result)) (c.components_below-end.new.steps + (6 * line_digits m + 24)) c.shell_walk-ring.new.steps
     c.settled.ensures.contents c.shell_walk-ring.ensures.contents c.settled.ensures.positions (omega (arith, c.shell_walk-ring.ensures.cost)) in
     omega (arith, cost, c.components_below-hole.ensures.cost, c.components_below-end.ensures.cost, c.settled.ensures.cost)
+
+pub overflow_add-place : goal.overflow_add-place
+overflow_add-place g c = let few = few_faces (contents_of_view c.args.served) c.args.served.whole in omega (arith, few, c.requires)

@@ -1,10 +1,9 @@
-use Rattle.std.proofs.Common.{arith, ap, sym, ◌∙◌, ◌<◌, ◌≡◌, subst, ℕ, length, false, ◌-◌}
+use Rattle.std.proofs.Common.{arith, ◌∙◌, ◌<◌, subst, length, false, ◌-◌}
 use Rattle.turan_code.specs.TuranView.{code_of_view}
 use Rattle.code_laws.specs.Code.{Code}
 use Rattle.code_laws.specs.Orbits.{orbit}
 use Rattle.pemb_file.specs.Served.{contents_of_view}
-use Rattle.navigate.specs.OrbitWalk.{rest}
-use Rattle.navigate.proofs.Facts.{digits_view}
+use Rattle.navigate.proofs.Facts.{digits_view, few_faces}
 use Rattle.navigate.proofs.Resting.{rest-none, rest-at}
 use Rattle.navigate.proofs.HoleLaws.{face_0}
 use Rattle.navigate.proofs.ShellLaws.{shell_first, searched, no_shell, shell_list}
@@ -36,3 +35,6 @@ returns-clause-cost g c =
     c.smallest_from-start.ensures.within c.smallest_from-start.ensures.smallest
     (rest-at c.from.result m (orbit m.code false c.smallest_from-start.result) c.from.ensures.contents c.from.ensures.positions) c.smallest_from-start.ensures.cost in
     omega (arith, d, cost, c.in-Some.ensures.cost)
+
+pub overflow_cast-place : goal.overflow_cast-place
+overflow_cast-place g c = let few = few_faces (contents_of_view c.args.served) c.args.served.whole in omega (arith, few, c.requires)

@@ -5,7 +5,7 @@ use Rattle.plane_model.specs.Lists.{holes, isolated_nodes}
 use Rattle.pemb_file.specs.Served.{contents_of_view}
 use Rattle.navigate.specs.Bound.{map_with}
 use Rattle.navigate.specs.IslandWalk.{rest}
-use Rattle.navigate.proofs.Facts.{words_line}
+use Rattle.navigate.proofs.Facts.{words_line, few_faces}
 use Rattle.navigate.proofs.OrbitLengths.{some_digits}
 use Rattle.navigate.proofs.IslandLaws.{islands_listed, islands_fit}
 use Rattle.navigate.proofs.islands.island_walk.Goals as goal
@@ -46,3 +46,9 @@ returns-clause-paid g c =
     let fits = islands_fit m c.between.result c.args.steps.now c.isolated_below-last.new.steps c.between.ensures.contents
     (omega (arith, c.in-Some.ensures.cost, c.components_below-hole.ensures.cost, c.components_below-end.ensures.cost, c.isolated_below-node.ensures.cost, c.isolated_below-last.ensures.cost)) in
     omega (arith, words, fits)
+
+pub overflow_add-place : goal.overflow_add-place
+overflow_add-place g c = let few = few_faces (contents_of_view c.args.served) c.args.served.whole in omega (arith, few, c.in-Some.ensures.found.0)
+
+pub overflow_add-place-2 : goal.overflow_add-place-2
+overflow_add-place-2 g c = let few = few_faces (contents_of_view c.args.served) c.args.served.whole in omega (arith, few, c.in-Some.ensures.found.0)

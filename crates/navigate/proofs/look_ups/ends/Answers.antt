@@ -5,7 +5,7 @@ use Rattle.navigate.proofs.Facts.{words_line}
 use Rattle.navigate.proofs.MapLists.{origin_at, reversed_at}
 use Rattle.topo_base.specs.SignedEdge.{reverse}
 use Rattle.code_laws.specs.Code.{mate}
-use Rattle.std.proofs.Common.{subst, sym, ◌<◌, ℕ, length}
+use Rattle.std.proofs.Common.{subst, ◌<◌, ℕ, length}
 use Rattle.navigate.proofs.OrbitLengths.{some_digits}
 use Rattle.navigate.proofs.look_ups.ends.Goals as goal
 

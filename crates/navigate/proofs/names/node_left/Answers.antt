@@ -1,12 +1,13 @@
-use Rattle.std.proofs.Common.{arith, ap, sym, ◌∙◌, ◌<◌, ◌≡◌, ℕ, List, length, subst}
+use Rattle.std.proofs.Common.{arith, ap, ◌∙◌, ◌+◌, ℕ, List, length}
 use Rattle.std.specs.Prelude.{slice_index}
+use Rattle.bit_words.specs.Digits.{digits}
 use Rattle.turan_code.specs.TuranView.{code_of_view}
 use Rattle.code_laws.specs.Code.{Code}
 use Rattle.code_laws.specs.Numbers.{node_of}
 use Rattle.pemb_file.specs.Served.{contents_of_view}
 use Rattle.file_laws.specs.MapOfFile.{node_at}
 use Rattle.file_laws.proofs.Fits.{node_in}
-use Rattle.navigate.proofs.Facts.{w, digits_view}
+use Rattle.navigate.proofs.Facts.{w, digits_view, digits_nodes}
 use Rattle.navigate.proofs.names.node_left.Goals as goal
 
 pub id_of-requires : goal.id_of-requires
@@ -27,4 +28,6 @@ returns-clause-node g c =
 pub returns-clause-cost : goal.returns-clause-cost
 returns-clause-cost g c =
     let d = digits_view (contents_of_view c.args.served) c.args.served.whole (code_of_view c.code-code.result) c.code-code.ensures.code in
-    omega (arith, d, c.node_of-number.ensures.cost, c.id_of.ensures.cost)
+    let k = digits_nodes (contents_of_view c.args.served) c.args.served.whole in
+    let same = ap (λ (xs : List ℕ). digits (length xs + 2)) c.nodes.ensures in
+    omega (arith, d, k, same, c.node_of-number.ensures.cost, c.id_of.ensures.cost)

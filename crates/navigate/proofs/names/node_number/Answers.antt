@@ -1,6 +1,6 @@
 use Rattle.std.proofs.Common.{arith, ap, ◌+◌, ℕ, List, length}
 use Rattle.bit_words.specs.Digits.{digits}
-use Rattle.id_names.specs.NamesView.{ids_of}
+use Rattle.id_names.specs.Views.{ids_of}
 use Rattle.pemb_file.specs.Served.{contents_of_view}
 use Rattle.navigate.proofs.Facts.{digits_nodes, node_known}
 use Rattle.navigate.proofs.names.node_number.Goals as goal

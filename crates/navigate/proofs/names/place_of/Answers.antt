@@ -1,6 +1,6 @@
-use Rattle.std.proofs.Common.{arith, ap, sym, ◌∙◌, ◌+◌, ℕ, List, length, Some, None, refl}
+use Rattle.std.proofs.Common.{arith, ap, ◌+◌, ℕ, List, length, Some, None}
 use Rattle.bit_words.specs.Digits.{digits}
-use Rattle.id_names.specs.NamesView.{ids_of}
+use Rattle.id_names.specs.Views.{ids_of}
 use Rattle.pemb_file.specs.Served.{contents_of_view}
 use Rattle.navigate.proofs.Facts.{digits_faces, known_face}
 use Rattle.navigate.proofs.names.place_of.Goals as goal

@@ -2,7 +2,7 @@ use Rattle.std.proofs.Common.{arith, ap, sym, ◌∙◌, ◌<◌, ◌≤◌, ◌
 use Rattle.std.specs.Prelude.{slice_index, IsNone}
 use Rattle.turan_code.specs.TuranView.{code_of_view}
 use Rattle.code_laws.specs.Code.{Code, component_of}
-use Rattle.code_laws.specs.Numbers.{node_of, node_count}
+use Rattle.code_laws.specs.Numbers.{node_count}
 use Rattle.pemb_file.specs.Served.{contents_of_view}
 use Rattle.file_laws.specs.MapOfFile.{joined_count}
 use Rattle.navigate.proofs.Facts.{w, digits_view}

@@ -1,10 +1,8 @@
 use Rattle.std.proofs.Common.{arith, ◌+◌, ◌-◌, ◌/◌, ◌≡◌, ◌∙◌, ap}
 use Rattle.std.specs.Prelude.{slice_index}
-use Rattle.std.proofs.Common.{length}
 use Rattle.bit_words.specs.Digits.{digits}
 use Rattle.file_laws.specs.Contents.{component_count}
 use Rattle.pemb_file.specs.Served.{contents_of_view}
-use Rattle.navigate.specs.Holes.{place_at}
 use Rattle.navigate.proofs.Facts.{digits_components}
 use Rattle.navigate.proofs.PlaceLaws.{many, component_at, places_rise, lower_half, upper_half}
 use Rattle.navigate.proofs.places.components_below.Goals as goal

@@ -1,5 +1,4 @@
-use Rattle.std.proofs.Common.{arith, ◌+◌, ◌-◌, ◌/◌, ◌≡◌, ◌∙◌, ap}
-use Rattle.std.specs.Prelude.{slice_index}
+use Rattle.std.proofs.Common.{arith, ◌+◌, ◌-◌, ◌/◌, ◌≡◌, ap}
 use Rattle.std.proofs.Common.{length}
 use Rattle.bit_words.specs.Digits.{digits}
 use Rattle.pemb_file.specs.Served.{contents_of_view}

@@ -1,10 +1,11 @@
-use Rattle.std.proofs.Common.{arith, ap, ◌∙◌, List, ℕ, length}
+use Rattle.std.proofs.Common.{arith, ap, ◌∙◌, ◌+◌, List, ℕ, length}
 use Rattle.std.specs.Prelude.{slice_index}
+use Rattle.bit_words.specs.Digits.{digits}
 use Rattle.turan_code.specs.TuranView.{code_of_view}
 use Rattle.code_laws.specs.Code.{Code, is_first}
 use Rattle.code_laws.specs.Numbers.{edge_of}
 use Rattle.pemb_file.specs.Served.{contents_of_view}
-use Rattle.navigate.proofs.Facts.{digits_view, edge_in, forward_many, id_ok, edge_is}
+use Rattle.navigate.proofs.Facts.{digits_view, digits_edges, edge_in, forward_many, id_ok, edge_is}
 use Rattle.navigate.proofs.positions.edge_at.Goals as goal
 
 pub forward-forward-requires : goal.forward-forward-requires
@@ -39,4 +40,6 @@ returns-clause-edge g c =
 pub returns-clause-cost : goal.returns-clause-cost
 returns-clause-cost g c =
     let d = digits_view (contents_of_view c.args.served) c.args.served.whole (code_of_view c.code-code.result) c.code-code.ensures.code in
-    omega (arith, d, c.edge_of-edge.ensures.cost, c.is_first-is_first.ensures.cost, c.forward-forward.ensures.one_step, c.id_of-id.ensures.cost)
+    let k = digits_edges (contents_of_view c.args.served) c.args.served.whole in
+    let same = ap (λ (xs : List ℕ). digits (length xs + 2)) c.edges-edges.ensures in
+    omega (arith, d, k, same, c.edge_of-edge.ensures.cost, c.is_first-is_first.ensures.cost, c.forward-forward.ensures.one_step, c.id_of-id.ensures.cost)

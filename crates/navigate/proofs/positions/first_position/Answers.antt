@@ -3,11 +3,11 @@ use Rattle.std.specs.Prelude.{slice_index}
 use mathlib.Core.Bool.{beq}
 use Rattle.bit_words.specs.Digits.{digits}
 use Rattle.turan_code.specs.TuranView.{code_of_view}
-use Rattle.id_names.specs.NamesView.{ids_of}
+use Rattle.id_names.specs.Views.{ids_of}
 use Rattle.file_laws.specs.MapOfFile.{signed_at}
 use Rattle.code_laws.specs.Code.{mate}
 use Rattle.pemb_file.specs.Served.{contents_of_view}
-use Rattle.navigate.proofs.Facts.{digits_view, digits_edges, forward_many, edge_known, edge_missing, first_edge}
+use Rattle.navigate.proofs.Facts.{digits_view, digits_edges, few_edges, forward_many, edge_known, edge_missing, first_edge}
 use Rattle.std.specs.Prelude.{if◌then◌else◌}
 use Rattle.navigate.proofs.positions.first_position.Goals as goal
 
@@ -49,3 +49,9 @@ returns-clause-cost g c =
     let k = digits_view m c.args.served.whole (code_of_view c.code-code.result) c.code-code.ensures.code in
     let same = ap (λ (xs : List ℕ). digits (length xs + 2)) c.edges.ensures in
     omega (arith, d, k, same, c.in-Some.ensures.cost, c.first_of_edge.ensures.cost, c.forward-forward.ensures.one_step)
+
+pub overflow_cast-number : goal.overflow_cast-number
+overflow_cast-number g c =
+    let many = ap (λ (xs : List ℕ). length xs) c.edges.ensures in
+    let few = few_edges (contents_of_view c.args.served) c.args.served.whole in
+    omega (arith, many, few, c.in-Some.ensures.found.0)

@@ -1,8 +1,7 @@
-use Rattle.std.proofs.Common.{arith, ap, sym, ◌∙◌, ◌≡◌, subst}
+use Rattle.std.proofs.Common.{arith, ap, ◌∙◌}
 use Rattle.turan_code.specs.TuranView.{code_of_view}
 use Rattle.code_laws.specs.Code.{Code}
 use Rattle.code_laws.specs.Numbers.{ring_of}
-use Rattle.code_laws.specs.declared.ring_number.RingNumber.TheVariants.{Outer, Shell}
 use Rattle.pemb_file.specs.Served.{contents_of_view}
 use Rattle.navigate.proofs.Facts.{digits_view}
 use Rattle.navigate.proofs.Rings.{outer_in, shell_in, outer_place}

@@ -1,12 +1,12 @@
-use Rattle.std.proofs.Common.{arith, ◌∙◌, ◌≡◌, ◌<◌, ap, sym, subst, length, ℕ, refl, Option}
+use Rattle.std.proofs.Common.{arith, ◌∙◌, ◌<◌, ap, sym, subst, length, ℕ, refl, Option}
 use Rattle.std.specs.Prelude.{slice_index, IsNone}
 use Rattle.turan_code.specs.TuranView.{code_of_view}
 use Rattle.code_laws.specs.Code.{Code}
 use Rattle.code_laws.specs.Numbers.{node_count}
 use Rattle.file_laws.specs.MapOfFile.{node_at}
 use Rattle.pemb_file.specs.Served.{contents_of_view}
-use Rattle.navigate.specs.OrbitWalk.{rest, price, contents_in}
-use Rattle.navigate.proofs.Facts.{words_line, digits_view}
+use Rattle.navigate.specs.OrbitWalk.{rest}
+use Rattle.navigate.proofs.Facts.{words_line, digits_view, few_nodes}
 use Rattle.navigate.proofs.Resting.{rest-none, allowance-none}
 use Rattle.navigate.proofs.MapLists.{node_list, node_alone}
 use Rattle.navigate.proofs.NodePlaces.{first_node}
@@ -55,3 +55,6 @@ returns-in-None-clause-paid g c =
     let k = digits_view m c.args.served.whole (code_of_view c.code.result) c.code.ensures.code in
     let none = allowance-none c.over.result (rest-none c.over.result c.over.ensures.positions) in
     omega (arith, d, k, words, none, c.in-Some.ensures.cost, c.in-None.ensures.cost)
+
+pub overflow_cast-number : goal.overflow_cast-number
+overflow_cast-number g c = let few = few_nodes (contents_of_view c.args.served) c.args.served.whole in omega (arith, few, c.in-Some.ensures.found.0)

@@ -1,8 +1,8 @@
-use Rattle.std.proofs.Common.{arith, ◌∙◌, ap, length}
+use Rattle.std.proofs.Common.{arith, ◌∙◌, length}
 use Rattle.code_laws.specs.Orbits.{orbit}
 use Rattle.std.proofs.Common.{false}
 use Rattle.pemb_file.specs.Served.{contents_of_view}
-use Rattle.navigate.specs.OrbitWalk.{rest, price, contents_in}
+use Rattle.navigate.specs.OrbitWalk.{rest}
 use Rattle.navigate.proofs.Facts.{words_line}
 use Rattle.navigate.proofs.Resting.{rest-at}
 use Rattle.navigate.proofs.MapLists.{ring_at}

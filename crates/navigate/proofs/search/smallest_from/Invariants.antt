@@ -1,7 +1,6 @@
 use Rattle.std.proofs.Common.{◌≡◌, ◌<◌, ◌≤◌, ◌+◌, ◌*◌, length}
 use Rattle.code_laws.specs.Orbits.{orbit}
 use Rattle.file_laws.specs.MapOfFile.{signed_at}
-use Rattle.navigate.specs.Bound.{line_digits}
 use Rattle.navigate.specs.Least.{least, smallest_of}
 use Rattle.pemb_file.specs.Served.{contents_of_view}
 use Rattle.navigate.specs.OrbitWalk.{contents_in, positions_left, price}

@@ -1,4 +1,4 @@
-use Rattle.std.proofs.Common.{arith, sym, ◌∙◌, ap, subst, ◌≡◌, ◌<◌, ◌≤◌, ◌+◌, ◌*◌, ℕ, ◌∷◌, true, length}
+use Rattle.std.proofs.Common.{arith, sym, ◌∙◌, ap, ◌≡◌, ◌+◌, ◌*◌, ◌∷◌, true, length}
 use Rattle.std.specs.Prelude.{drop, ◌==◌, ◌||◌}
 use Rattle.scratch_region.specs.Marks.{is_marked}
 use Rattle.plane_model.specs.Sets.{has}

@@ -1,21 +1,25 @@
 use Rattle.std.specs.Prelude.{slice_index, map}
-use Rattle.std.proofs.Common.{arith, sym, ◌∙◌, ap, subst, ◌≡◌, ◌<◌, ◌+◌, ℕ, [], true, length, refl}
+use Rattle.std.proofs.Common.{arith, sym, ◌∙◌, ap, subst, ◌≡◌, ◌<◌, ◌+◌, ℕ, [], ◌∷◌, true, length, refl}
+use Rattle.std.proofs.lemmas.List.{length-map}
 use Rattle.scratch_region.specs.Numbers.{numbers_of}
 use Rattle.plane_model.specs.Sets.{has}
 use Rattle.plane_model.specs.Lists.{face_edges}
 use Rattle.file_laws.specs.Contents.{Contents}
 use Rattle.file_laws.specs.MapOfFile.{signed_at, face_at_place}
 use Rattle.pemb_file.specs.Served.{contents_of_view}
-use Rattle.navigate.specs.Bound.{map_with}
+use Rattle.navigate.specs.Bound.{map_with, line_digits}
 use Rattle.navigate.specs.Beside.{place_across}
 use Rattle.navigate.specs.FaceWalk as rings
 use Rattle.navigate.specs.FaceWalk.{face_positions}
-use Rattle.navigate.proofs.FaceLaws.{rest-is}
+use Rattle.navigate.proofs.FaceLaws.{rest-is, face_cleared_cost}
+use Rattle.navigate.proofs.Facts.{few_faces}
 use Rattle.navigate.proofs.WithinLaws.{face-in}
+use Rattle.face_hops.specs.Prices.{rounds_price}
 use Rattle.face_hops.specs.Search.{IsSearch}
-use Rattle.face_hops.proofs.MapFacts.{beside-sym, few_faces}
+use Rattle.face_hops.proofs.MapFacts.{beside-sym}
 use Rattle.face_hops.proofs.Searching.{tail_few}
-use Rattle.face_hops.proofs.Rounding.{IsRounding, next_at, room_for, few_tail, end}
+use Rattle.face_hops.proofs.Rounding.{IsRounding, next_at, room_for, few_tail, end, queue_kept}
+use Rattle.face_hops.proofs.Paid.{round_begun}
 use Rattle.face_hops.proofs.Across.{started}
 use Rattle.face_hops.proofs.breadth.Search.go_round.Goals as goal
 
@@ -71,7 +75,10 @@ loop-p-init g c =
       head = refl;
       same = first;
       rounding = subst (λ x. IsRounding m v.from v.head place x (numbers_of v.numbers) (numbers_of v.queue) v.tail (map (place_across m) (face_positions walk))) (ap (λ x. x + 1) (sym c.get-number.ensures)) begun;
+      kept = λ i l. refl;
       grows = c.rings_at-rings.ensures.grows;
+      paid = round_begun m (face_at_place m place) (length (face_positions walk)) (length (rings.rest walk)) c.args.steps.now c.rings_at-rings.new.steps (sym (length-map (face_positions walk) (signed_at m)) ∙ ap length edges) (ap length c.rings_at-rings.ensures.list)
+          c.rings_at-rings.ensures.cost;
     }
 
 pub reach-self-requires-clause-room : goal.reach-self-requires-clause-room
@@ -97,6 +104,9 @@ loop-p-preserved g c =
     let i = c.loop-p.invariant in
     let at : rings.contents_in c.pass.new.self ≡ m = c.in-Some.ensures.contents ∙ i.same in
     let across = c.place_across-across.ensures.place ∙ ap (λ (x : Contents). place_across x c.in-Some.p) at in
+    let more = i.rounding.more in
+    let before = ap line_digits i.same in
+    let after = ap line_digits at in
     record {
       served = i.served;
       from = i.from;
@@ -104,7 +114,10 @@ loop-p-preserved g c =
       same = at;
       rounding = next_at m v.from (beside-sym m v.served.whole) v.head _ _ c.in-Some.p c.place_across-across.result (numbers_of c.loop-p.self.numbers) (numbers_of c.loop-p.self.queue) _ _ c.loop-p.self.tail _ (face_positions c.loop-p.rings) (face_positions c.pass.new.self) i.rounding
           c.in-Some.ensures.next across c.reach-self.ensures.numbers c.reach-self.ensures.queue c.reach-self.ensures.tail;
+      kept = λ k l. queue_kept (numbers_of c.loop-p.self.numbers) (numbers_of c.loop-p.self.queue) _ c.loop-p.self.tail c.place_across-across.result k c.reach-self.ensures.queue (omega (arith, l, more)) ∙ i.kept k l;
       grows = omega (arith, i.grows, c.in-Some.ensures.cost.0, c.place_across-across.ensures.some_steps);
+      paid = face_cleared_cost m (face_positions c.loop-p.rings) (face_positions c.pass.new.self) c.in-Some.p c.loop-p.steps c.pass.new.steps c.place_across-across.new.steps _ c.in-Some.ensures.next i.paid (omega (arith, before, c.in-Some.ensures.cost.1))
+          (omega (arith, after, c.place_across-across.ensures.cost));
     }
 
 pub returns-clause-searching : goal.returns-clause-searching
@@ -132,3 +145,12 @@ returns-clause-searching g c =
       from_in = omega (arith, low, same, many);
       search = subst (λ (x : Contents). IsSearch x c.loop-p.self.from (slice_index ds) (slice_index qs) (c.loop-p.self.head + 1) tail) back two;
     }
+
+pub returns-clause-kept : goal.returns-clause-kept
+returns-clause-kept g c = c.loop-p.invariant.kept
+
+pub returns-clause-paid : goal.returns-clause-paid
+returns-clause-paid g c =
+    let m = contents_of_view c.args.self.now.served in
+    let at = ap (λ x. rounds_price m (face_at_place m x ∷ [])) c.get-place.ensures in
+    omega (arith, at, c.loop-p.invariant.paid, c.in_default.ensures.cost)

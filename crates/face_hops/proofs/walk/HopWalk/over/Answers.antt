@@ -1,7 +1,7 @@
 use Rattle.std.proofs.Common.{arith, refl, ap, ◌∙◌, Some}
 use Rattle.scratch_region.specs.Numbers.{numbers_of}
 use Rattle.pemb_file.specs.Served.{contents_of_view}
-use Rattle.face_hops.specs.HopWalk.{way, rest}
+use Rattle.face_hops.specs.HopWalk.{way, rest, allowance}
 use Rattle.face_hops.proofs.Ahead.{small_number}
 use Rattle.face_hops.proofs.Stepping.{distance_at}
 use Rattle.face_hops.proofs.walk.HopWalk.over.Goals as goal
@@ -22,3 +22,7 @@ returns-clause-moves c =
     let d = distance_at m c.args.served.whole c.args.to c.args.place (numbers_of c.args.distances) c.requires.distances c.requires.place c.requires.to in
     let is = d.2 in
     d.1 ∙ ap Some (omega (arith, is))
+
+pub returns-clause-paid : goal.returns-clause-paid
+unfolding way rest allowance
+returns-clause-paid c = refl

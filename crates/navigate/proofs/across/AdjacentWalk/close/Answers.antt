@@ -1,15 +1,12 @@
-use Rattle.std.proofs.Common.{rules, refl, arith, sym, ◌∙◌, ap, ◌≡◌, ◌*◌, ℕ, List, length}
-use Rattle.std.specs.Prelude.{map}
+use Rattle.std.proofs.Common.{refl, arith, sym, ◌∙◌, ap, ◌≡◌, length}
 use Rattle.scratch_region.specs.Marks.{is_marked}
 use Rattle.file_laws.specs.Contents.{Contents}
-use Rattle.plane_model.specs.Sets.{has}
 use Rattle.navigate.specs.Bound.{line_digits}
 use Rattle.navigate.specs.Beside.{place_across}
 use Rattle.navigate.specs.FaceWalk as rings
 use Rattle.navigate.specs.FaceWalk.{face_positions}
 use Rattle.navigate.specs.AdjacentWalk.{contents_in, allowance}
 use Rattle.navigate.proofs.FaceLaws.{face_cleared_cost}
-use Rattle.navigate.proofs.Resting.{passed_shorter}
 use Rattle.navigate.proofs.StandingLaws.{given_across, ahead_next, ahead_end}
 use Rattle.navigate.proofs.across.AdjacentWalk.close.Goals as goal
 

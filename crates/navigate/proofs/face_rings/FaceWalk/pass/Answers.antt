@@ -1,4 +1,3 @@
-use Rattle.std.proofs.Common.{◌∙◌, ap, sym}
 use Rattle.navigate.specs.OrbitWalk.{positions_left}
 use Rattle.navigate.proofs.FaceLaws.{face_end, face_next}
 use Rattle.navigate.proofs.face_rings.FaceWalk.pass.Goals as goal

@@ -1,4 +1,4 @@
-use Rattle.std.proofs.Common.{arith, refl, sym, ◌∙◌, false, ◌+◌}
+use Rattle.std.proofs.Common.{arith, refl, sym, ◌∙◌, false}
 use Rattle.pemb_file.specs.Served.{contents_of_view}
 use Rattle.navigate.specs.OrbitWalk.{positions_left}
 use Rattle.navigate.specs.FaceWalk.{face_positions}

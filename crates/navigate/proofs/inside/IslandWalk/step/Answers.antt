@@ -1,5 +1,4 @@
-use Rattle.std.proofs.Common.{arith, ap, ◌∙◌, ◌+◌, ◌-◌, length, refl}
-use Rattle.std.specs.Prelude.{slice_index}
+use Rattle.std.proofs.Common.{arith, ap, ◌∙◌, ◌+◌}
 use Rattle.topo_base.specs.Script.{Item}
 use Rattle.file_laws.specs.MapOfFile.{signed_at}
 use Rattle.navigate.specs.IslandWalk.{contents_in, items_between, rest, allowance}

@@ -1,4 +1,4 @@
-use Rattle.std.proofs.Common.{ap, sym, subst, ◌≡◌, ◌∙◌, length}
+use Rattle.std.proofs.Common.{ap, ◌∙◌, length}
 use Rattle.code_laws.specs.Code.{Code, step}
 use Rattle.code_laws.specs.Orbits.{walk}
 use Rattle.pemb_file.specs.Served.{contents_of_view}
