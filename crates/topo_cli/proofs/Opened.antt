@@ -4,7 +4,8 @@ use Rattle.bit_words.specs.Digits.{digits}
 use Rattle.plane_model.specs.PlaneMap.{PlaneMap, map_of}
 use Rattle.plane_model.specs.Consistent.{is_consistent, size}
 use Rattle.file_laws.specs.Layout.{counts_in, words_of}
-use Rattle.file_laws.specs.Contents.{Contents, contents_of}
+use Rattle.file_laws.specs.Contents.{Contents}
+use Rattle.file_laws.specs.Held.{contents_of}
 use Rattle.file_laws.specs.Lawful.{file_size, first_fault, is_lawful, map_of_file}
 use Rattle.navigate.specs.Bound.{map_with}
 use Rattle.topo_cli.specs.Outcome.{words_to_open}

@@ -129,9 +129,9 @@ pub record IsScriptTaken (c : Call) (s : Status) : Type 0 where
   pub waits : IfSome c.form (ScriptWaits c)
   pub few : TookAtMost (most_taken s) c.script.left_before c.script.left_after
 
--- the one image of the map of tables: a lawful file that stands for them
+-- the one image of the map of tables: a lawful file of form 2 that stands for them
 pub record IsImageOf (t : Rows) (image : List ℕ) : Type 0 where
-  pub is : image ≡ image_of (contents_of_map (map_of t))
+  pub is : image ≡ image_of 2 (contents_of_map (map_of t))
   pub lawful : IsTrue (is_lawful image)
   pub stands : StandsFor image t
 

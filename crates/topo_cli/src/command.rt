@@ -3,7 +3,7 @@
 ghost use Rattle.std.specs.Prelude.{◌≡◌, map, option_map, string_bytes};
 ghost use Rattle.topo_cli.specs.Words.{form, form_of, form_of_three, form_of_two, grid_size};
 
-use topo_base::read_positive;
+use topo_base::{IdNumber, read_positive};
 
 /// What the words ask for.
 #[derive(Clone, Copy, Debug, PartialEq, Eq)]
@@ -21,14 +21,14 @@ pub enum Command<'a> {
 }
 
 /// The most squares along a side of a grid.
-const LARGEST_GRID: u32 = 1000;
+const LARGEST_GRID: IdNumber = 1000;
 
 /// The size of a grid.
 fn read_grid_size(text: &str) -> Option<u32>
     ensures { result ≡ grid_size text.now }
 {
     match read_positive(text.as_bytes()) {
-        Some(size) if size <= LARGEST_GRID => Some(size),
+        Some(size) if size <= LARGEST_GRID => Some(size as u32),
         _ => None,
     }
 }

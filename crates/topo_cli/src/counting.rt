@@ -24,11 +24,11 @@ fn line_of_numbers(alloc: Global, word: &str, counts: Counts) -> Result<Vec<u8>,
 {
     let mut line = Vec::new(alloc);
     line.extend_from_slice(word.as_bytes())?;
-    append_number(&mut line, counts.nodes)?;
-    append_number(&mut line, counts.edges)?;
-    append_number(&mut line, counts.faces)?;
-    append_number(&mut line, counts.components)?;
-    append_number(&mut line, counts.regions)?;
+    append_number(&mut line, IdNumber::from(counts.nodes))?;
+    append_number(&mut line, IdNumber::from(counts.edges))?;
+    append_number(&mut line, IdNumber::from(counts.faces))?;
+    append_number(&mut line, IdNumber::from(counts.components))?;
+    append_number(&mut line, IdNumber::from(counts.regions))?;
     line.push(b'\n')?;
     Ok(line)
 }

@@ -47,7 +47,28 @@ const ISLE: Folder<'static> = Folder {
     faces: Some("face_id\n0\n1\n2\n"),
 };
 
-const CASES: [Case<'static>; 31] = [
+/// A lens of two edges with the ids at the ends of the range, and a closed edge and a node in it with ids past 31 bits.
+const WIDE: Folder<'static> = Folder {
+    nodes: "node_id,containing_face\n9223372036854775807,\n1,\n2147483649,\n2147483648,9223372036854775807\n",
+    edges: "edge_id,start_node,end_node,next_left_edge,next_right_edge,left_face,right_face\n\
+            9223372036854775807,9223372036854775807,1,1,-1,9223372036854775807,0\n\
+            1,1,9223372036854775807,9223372036854775807,-9223372036854775807,9223372036854775807,0\n\
+            2147483648,2147483649,2147483649,2147483648,-2147483648,1,9223372036854775807\n",
+    faces: Some("face_id\n9223372036854775807\n1\n"),
+};
+
+/// What is asked of the island with two regions, and what is answered.
+const ISLE_WITH_REGIONS: Case<'static> = Case {
+    shows: "regions that nest, and a face without one",
+    folder: ISLE,
+    script: b"regions 1\nregions 2\nregions 0\ncommon 1 2\ncommon 2 1\ncommon 0 1\n\
+            common 1 9\nregions 3\ncounts\n",
+    status: Status::Done,
+    out: "regions 1: 2 1\nregions 2: 1\nregions 0:\ncommon 1 2: 1\ncommon 2 1: 1\ncommon 0 1:\n\
+            common 1 9: unknown\nregions 3: unknown\ncounts: 5 4 2 2 2\n",
+};
+
+const CASES: [Case<'static>; 32] = [
     Case {
         shows: "rings, faces and islands of the triangle",
         folder: TRIANGLE,
@@ -173,19 +194,31 @@ const CASES: [Case<'static>; 31] = [
         folder: Folder {
             nodes: "node_id,containing_face\n1,\n",
             edges: "edge_id,start_node,end_node,next_left_edge,next_right_edge,left_face,right_face\n\
-            2147483647,1,1,2147483647,-2147483647,1,0\n",
+            9223372036854775807,1,1,9223372036854775807,-9223372036854775807,1,0\n",
             ..TRIANGLE
         },
-        script: b"ring -2147483647\nring 2147483648\n",
+        script: b"ring -9223372036854775807\nring 9223372036854775808\n",
         status: Status::Done,
-        out: "ring -2147483647: -2147483647\nbad\n",
+        out: "ring -9223372036854775807: -9223372036854775807\nbad\n",
+    },
+    Case {
+        shows: "an id past 31 bits",
+        folder: Folder {
+            nodes: "node_id,containing_face\n1,\n",
+            edges: "edge_id,start_node,end_node,next_left_edge,next_right_edge,left_face,right_face\n\
+            2147483648,1,1,2147483648,-2147483648,1,0\n",
+            ..TRIANGLE
+        },
+        script: b"ring -2147483648\n",
+        status: Status::Done,
+        out: "ring -2147483648: -2147483648\n",
     },
     Case {
         shows: "an id that is too great",
         folder: Folder {
             nodes: "node_id,containing_face\n1,\n",
             edges: "edge_id,start_node,end_node,next_left_edge,next_right_edge,left_face,right_face\n\
-            2147483648,1,1,1,-1,1,0\n",
+            9223372036854775808,1,1,1,-1,1,0\n",
             ..TRIANGLE
         },
         script: b"ring 1\n",
@@ -392,19 +425,11 @@ struct RegionCase<'a> {
     case: Case<'a>,
 }
 
-const REGION_CASES: [RegionCase<'static>; 12] = [
+const REGION_CASES: [RegionCase<'static>; 15] = [
     RegionCase {
         regions: Some("region_id,parent\n1,\n2,1\n"),
         members: Some("region_id,face_id\n2,1\n1,2\n"),
-        case: Case {
-            shows: "regions that nest, and a face without one",
-            folder: ISLE,
-            script: b"regions 1\nregions 2\nregions 0\ncommon 1 2\ncommon 2 1\ncommon 0 1\n\
-            common 1 9\nregions 3\ncounts\n",
-            status: Status::Done,
-            out: "regions 1: 2 1\nregions 2: 1\nregions 0:\ncommon 1 2: 1\ncommon 2 1: 1\ncommon 0 1:\n\
-            common 1 9: unknown\nregions 3: unknown\ncounts: 5 4 2 2 2\n",
-        },
+        case: ISLE_WITH_REGIONS,
     },
     RegionCase {
         regions: Some("region_id,parent\n1,\n2,\n"),
@@ -418,7 +443,7 @@ const REGION_CASES: [RegionCase<'static>; 12] = [
         },
     },
     RegionCase {
-        regions: Some("parent,name,region_id\n7,a,2147483647\n,\"b, c\",7\n"),
+        regions: Some("parent,name,region_id\n7,a,9223372036854775807\n,\"b, c\",7\n"),
         members: None,
         case: Case {
             shows: "regions without a member table, named with gaps",
@@ -525,6 +550,58 @@ const REGION_CASES: [RegionCase<'static>; 12] = [
             script: b"regions 1\n",
             status: Status::TablesRefused,
             out: "refused F1 table=region column=parent\n",
+        },
+    },
+    RegionCase {
+        regions: Some("region_id,parent\n9223372036854775807,1\n1,\n"),
+        members: Some("region_id,face_id\n9223372036854775807,9223372036854775807\n1,1\n"),
+        case: Case {
+            shows: "ids at both ends of the range, and past 31 bits",
+            folder: WIDE,
+            script: b"node 1\nnode 9223372036854775807\nring 1\nring -9223372036854775807\n\
+            face 9223372036854775807\nadjacent 9223372036854775807\nislands 9223372036854775807\n\
+            ends 9223372036854775807\nsides -9223372036854775807\nnext 9223372036854775807\n\
+            contains 9223372036854775807\ncontains 2147483649\ncontains 2147483648\n\
+            ring -2147483648\nregions 9223372036854775807\ncommon 1 9223372036854775807\n\
+            node 9223372036854775806\nedge 1\nface 9223372036854775808\nring -9223372036854775808\ncounts\n",
+            status: Status::Done,
+            out: "node 1: 1 -9223372036854775807\n\
+            node 9223372036854775807: -1 9223372036854775807\n\
+            ring 1: 1 9223372036854775807\nring -9223372036854775807: -9223372036854775807 -1\n\
+            face 9223372036854775807: 1 9223372036854775807 -2147483648\n\
+            adjacent 9223372036854775807: 0 1\nislands 9223372036854775807: -2147483648 n2147483648\n\
+            ends 9223372036854775807: 9223372036854775807 1\nsides -9223372036854775807: 0 9223372036854775807\n\
+            next 9223372036854775807: 1\ncontains 9223372036854775807: 0\n\
+            contains 2147483649: 9223372036854775807\ncontains 2147483648: 9223372036854775807\n\
+            ring -2147483648: -2147483648\nregions 9223372036854775807: 9223372036854775807 1\n\
+            common 1 9223372036854775807: 1\nnode 9223372036854775806: unknown\n\
+            bad\nbad\nbad\ncounts: 4 3 2 2 2\n",
+        },
+    },
+    RegionCase {
+        regions: None,
+        members: None,
+        case: Case {
+            shows: "a next without a row, at the end of the range",
+            folder: Folder {
+                edges: "edge_id,start_node,end_node,next_left_edge,next_right_edge,left_face,right_face\n\
+            9223372036854775807,1,1,9223372036854775807,-9223372036854775806,1,0\n",
+                ..TRIANGLE
+            },
+            script: b"ring 1\n",
+            status: Status::TablesRefused,
+            out: "refused F9 edge=9223372036854775807 next=-9223372036854775806\n",
+        },
+    },
+    RegionCase {
+        regions: None,
+        members: Some("region_id,face_id\n9223372036854775807,9223372036854775807\n"),
+        case: Case {
+            shows: "a member of a region without a row, at the end of the range",
+            folder: WIDE,
+            script: b"ring 1\n",
+            status: Status::TablesRefused,
+            out: "refused F20 table=member id=9223372036854775807 region=9223372036854775807\n",
         },
     },
 ];
@@ -845,42 +922,183 @@ fn files_of_the_system_are_answered(rt: HostRuntime) -> Result<(), Fail> {
 }
 
 /// The words of the triangle's image.
-const TRIANGLE_IMAGE: [u64; 35] = [
+const TRIANGLE_IMAGE: [u64; 54] = [
     0x4f504f54424d4550,
-    0,
-    0x98123f2d89e12b54,
-    0x24707ab9fff0f346,
-    0xa1690037f568805d,
-    0xbcaa430544eb8301,
+    2,
+    0xa1bf1ed24ca70269,
+    0x9821e4f8115845eb,
+    0x4551c61015007f17,
+    0xfcf998d9c03e5ac2,
     3,
     2,
     1,
+    0,
+    0,
+    0,
+    0,
     0,
     0,
     27,
-    4 << 32,
+    17179869184,
     3,
-    2 << 32,
+    8589934592,
     0,
     1,
-    1 << 32,
+    4294967296,
     0,
-    6 << 32,
+    25769803776,
     0,
-    2 + (1 << 32),
+    7,
+    12884901888,
+    4611686018427387905,
+    864691128455135232,
+    0,
+    33,
+    0,
+    0,
+    7,
+    12884901888,
+    4611686018427387905,
+    864691128455135232,
+    0,
+    24,
+    0,
+    0,
+    1,
+    4294967296,
+    1,
+    0,
+    0,
+    0,
+    0,
+    0,
+    0,
+    0,
+    0,
+    0,
+    0,
+];
+
+/// The words of the triangle's file in form 1.
+const OLD_TRIANGLE: [u64; 52] = [
+    0x4f504f54424d4550,
+    1,
+    0xcd446cffc1e99544,
+    0x4135ffdf3f829151,
+    0x93ef3e4b62f5dbcc,
+    0x1e1a49fb6423447b,
     3,
+    2,
+    1,
+    0,
+    0,
+    0,
+    0,
+    0,
+    0,
+    27,
+    17179869184,
+    3,
+    8589934592,
+    0,
+    1,
+    4294967296,
+    0,
+    25769803776,
+    0,
+    7,
+    12884901888,
+    864691129528877057,
+    0,
+    33,
+    0,
+    0,
+    7,
+    12884901888,
+    864691129528877057,
+    0,
+    24,
+    0,
+    0,
+    1,
+    4294967296,
+    1,
+    0,
+    0,
+    0,
+    0,
+    0,
+    0,
+    0,
+    0,
+    0,
+    0,
+];
+
+/// The words of the file of the island with two regions in form 1.
+const OLD_ISLE: [u64; 62] = [
+    0x4f504f54424d4550,
+    1,
+    0x3fdf05c01785a467,
+    0xa6e1cdd7807edcad,
+    0xc772b8838ba145f3,
+    0xa4947b198cd9c407,
+    4,
+    2,
+    2,
     1,
     2,
-    1 + (3 << 32),
     2,
-    2 << 32,
+    0,
+    0,
+    0,
+    27,
+    17179869184,
+    3,
+    8589934592,
+    0,
+    5,
+    8589934592,
+    0,
+    25769803776,
+    8,
+    0,
+    31,
+    21474836480,
+    216172782650654721,
+    1407374887747584,
+    0,
+    17433,
+    5,
+    8589934592,
+    2,
+    15,
+    17179869184,
+    216172782650654721,
+    4194304,
+    1616,
+    0,
+    0,
+    3,
+    8589934592,
+    1073741825,
+    4,
+    0,
+    0,
+    4294967296,
+    4294967296,
+    2,
+    3,
+    8589934592,
+    0,
+    3,
+    8589934592,
+    1073741825,
+    4,
+    0,
+    0,
+    8589934592,
     1,
-    1,
-    0,
-    0,
-    0,
-    0,
-    0,
 ];
 
 /// The bytes of these words, the lowest byte of each first.
@@ -923,7 +1141,7 @@ const BUILDS: [BuildCase; 13] = [
         sink: &[],
         status: Status::Done,
         out: "built 3 3 1 1 0\n",
-        held: Some(280),
+        held: Some(432),
     },
     BuildCase {
         shows: "a build whose line is written in part",
@@ -931,7 +1149,7 @@ const BUILDS: [BuildCase; 13] = [
         sink: &[1],
         status: Status::WriteFault,
         out: "built 3 ",
-        held: Some(280),
+        held: Some(432),
     },
     BuildCase {
         shows: "a failing first read of the node table",
@@ -1011,7 +1229,7 @@ const BUILDS: [BuildCase; 13] = [
         sink: &[],
         status: Status::WriteFault,
         out: "",
-        held: Some(140),
+        held: Some(216),
     },
     BuildCase {
         shows: "a call that is not made",
@@ -1019,7 +1237,7 @@ const BUILDS: [BuildCase; 13] = [
         sink: &[],
         status: Status::Done,
         out: "built 3 3 1 1 0\n",
-        held: Some(280),
+        held: Some(432),
     },
 ];
 
@@ -1069,7 +1287,7 @@ fn builds_end_as_they_have_to(rt: HostRuntime) -> Result<(), Fail> {
     Ok(())
 }
 
-/// The triangle's image with some words changed and its end cut off, and what `check` has to tell of it.
+/// A triangle's file with some words changed and its end cut off, and what `check` has to tell of it.
 #[derive(Clone, Copy)]
 struct FileCase {
     shows: &'static str,
@@ -1079,16 +1297,16 @@ struct FileCase {
     out: &'static str,
 }
 
-const FILES: [FileCase; 14] = [
+const OLD_FILES: [FileCase; 21] = [
     FileCase {
-        shows: "the image of the triangle",
+        shows: "the file of the triangle in form 1",
         changes: &[],
-        bytes: 280,
+        bytes: 416,
         status: Status::Done,
         out: "lawful 3 3 1 1 0\n",
     },
     FileCase {
-        shows: "a byte less",
+        shows: "a byte less than 35 words",
         changes: &[],
         bytes: 279,
         status: Status::FileRefused,
@@ -1106,167 +1324,406 @@ const FILES: [FileCase; 14] = [
         changes: &[],
         bytes: 88,
         status: Status::FileRefused,
-        out: "refused G4 want=35 have=11\n",
+        out: "refused G4 want=15 have=11\n",
+    },
+    FileCase {
+        shows: "all words of the header but the last",
+        changes: &[],
+        bytes: 112,
+        status: Status::FileRefused,
+        out: "refused G4 want=15 have=14\n",
+    },
+    FileCase {
+        shows: "the header alone",
+        changes: &[],
+        bytes: 120,
+        status: Status::FileRefused,
+        out: "refused G4 want=52 have=15\n",
     },
     FileCase {
         shows: "all words but the last",
         changes: &[],
-        bytes: 272,
+        bytes: 408,
         status: Status::FileRefused,
-        out: "refused G4 want=35 have=34\n",
+        out: "refused G4 want=52 have=51\n",
     },
     FileCase {
-        shows: "another form",
-        changes: &[(1, 1)],
-        bytes: 280,
+        shows: "form 0",
+        changes: &[(1, 0)],
+        bytes: 416,
         status: Status::FileRefused,
-        out: "refused G3 form=1\n",
+        out: "refused G3 form=0\n",
+    },
+    FileCase {
+        shows: "form 3",
+        changes: &[(1, 3)],
+        bytes: 416,
+        status: Status::FileRefused,
+        out: "refused G3 form=3\n",
+    },
+    FileCase {
+        shows: "the words of form 1 as form 2",
+        changes: &[(1, 2)],
+        bytes: 416,
+        status: Status::FileRefused,
+        out: "refused G4 want=54 have=52\n",
+    },
+    FileCase {
+        shows: "as many edges as a word can tell",
+        changes: &[(6, 18446744073709551615)],
+        bytes: 416,
+        status: Status::FileRefused,
+        out: "refused G4 want=50188114247416807456 have=52\n",
     },
     FileCase {
         shows: "a code with the old digest",
-        changes: &[(13, 6)],
-        bytes: 280,
+        changes: &[(17, 6)],
+        bytes: 416,
         status: Status::FileRefused,
         out: "refused G5 at=0\n",
     },
     FileCase {
         shows: "a code with one edge fewer in its tree",
         changes: &[
-            (2, 0xaf5dc80df2f328d6),
-            (3, 0xd263d568eaf296e1),
-            (4, 0xba75be32ce2b7c89),
-            (5, 0xcac544f15c55ced4),
-            (11, 26),
+            (2, 0x768b3e1b2e2ab965),
+            (3, 0x086aa9f1e9105289),
+            (4, 0xc51f5f6f0dd233b6),
+            (5, 0x8e749feeb6ec87fd),
+            (15, 26),
         ],
-        bytes: 280,
+        bytes: 416,
         status: Status::FileRefused,
         out: "refused G7 ones found=3\n",
     },
     FileCase {
         shows: "a tree that closes before it opens",
         changes: &[
-            (2, 0x8efc881701349cdf),
-            (3, 0x25a91351accf4df8),
-            (4, 0x071640063da2cc78),
-            (5, 0xbbd663b4ae398f55),
-            (13, 6),
+            (2, 0xec404f8fff7e3b70),
+            (3, 0x06151949de7e8ecc),
+            (4, 0x5b8181c96a038692),
+            (5, 0x618f938c47651412),
+            (17, 6),
         ],
-        bytes: 280,
+        bytes: 416,
         status: Status::FileRefused,
         out: "refused G7 tree component=0\n",
     },
     FileCase {
         shows: "a wrong count",
         changes: &[
-            (2, 0x459db504838176db),
-            (3, 0x1faa83e3c56a34b0),
-            (4, 0x046a0bf7a5ed0555),
-            (5, 0x7ae8285c643ba575),
-            (12, 5 << 32),
+            (2, 0xc9c588e2319aabb5),
+            (3, 0x328a2292425649c0),
+            (4, 0x8e1c88b00ed4ecb5),
+            (5, 0xb0e12726fee2f097),
+            (16, 21474836480),
         ],
-        bytes: 280,
+        bytes: 416,
         status: Status::FileRefused,
         out: "refused G8 section=2 at=1 want=4 found=5\n",
     },
     FileCase {
+        shows: "a node with the id 0",
+        changes: &[
+            (2, 0xeab2f6eaa9fa12e9),
+            (3, 0xcbb4dc7da5f512c6),
+            (4, 0x557d4db886a07743),
+            (5, 0x5bb4096b52b235be),
+            (27, 864691129528877056),
+        ],
+        bytes: 416,
+        status: Status::FileRefused,
+        out: "refused G9 section=33 at=0\n",
+    },
+    FileCase {
         shows: "an order of nodes that names one twice",
         changes: &[
-            (2, 0x1eb37a70c6cd947c),
-            (3, 0xa81d0b60f34104ce),
-            (4, 0x46d9267450afc39d),
-            (5, 0x93c2dc7a3473680f),
-            (23, 0),
+            (2, 0x7618432905950eae),
+            (3, 0x181e1bdd27628d42),
+            (4, 0xfa9ad40a7fd9ba02),
+            (5, 0xa5de6232ee3deb8c),
+            (29, 32),
         ],
-        bytes: 280,
+        bytes: 416,
         status: Status::FileRefused,
-        out: "refused G9 section=11 at=1\n",
+        out: "refused G9 section=34 at=1\n",
     },
     FileCase {
         shows: "an outer component in a face",
         changes: &[
-            (2, 0x2c3de022491b489d),
-            (3, 0x88c69c5a92e0e3aa),
-            (4, 0x97a29fba9ef351ae),
-            (5, 0xa059034daf09d7dd),
-            (31, 1),
+            (2, 0xc5ae8cd249f61673),
+            (3, 0xe0a48320e9e57073),
+            (4, 0x2cf4dcd8d15cb0c3),
+            (5, 0x009407b9226c8d21),
+            (45, 1),
         ],
-        bytes: 280,
+        bytes: 416,
         status: Status::FileRefused,
         out: "refused G10 section=17 at=0\n",
     },
     FileCase {
         shows: "a component that starts at another edge",
         changes: &[
-            (2, 0xc44344263be83878),
-            (3, 0xde0896d54519d8d6),
-            (4, 0x74e27d1df81bb8a3),
-            (5, 0x7ba6cd70bcfcf07b),
-            (13, 5),
+            (2, 0xa3507c94dbc9dd26),
+            (3, 0x0406e0f23c6dd264),
+            (4, 0x726c2f086784d56e),
+            (5, 0x2ae9e4886c5f2321),
+            (17, 5),
         ],
-        bytes: 280,
+        bytes: 416,
         status: Status::FileRefused,
         out: "refused G11 component=0\n",
     },
     FileCase {
         shows: "a bit past the end of the code",
         changes: &[
-            (2, 0xd9d1d3a23ed11088),
-            (3, 0xbaf829be49d9e90a),
-            (4, 0x982a5c7e35094661),
-            (5, 0x366b237ea16522aa),
-            (11, 91),
+            (2, 0xe4d808ec748812f8),
+            (3, 0x0eb91854834a734f),
+            (4, 0x4d00150a6d408e9f),
+            (5, 0x80cad0e97fe2cb0a),
+            (15, 91),
         ],
-        bytes: 280,
+        bytes: 416,
         status: Status::FileRefused,
-        out: "refused G13 word=11\n",
+        out: "refused G13 word=15\n",
+    },
+    FileCase {
+        shows: "a node whose id has 32 bits",
+        changes: &[
+            (2, 0xb28310deec3feae1),
+            (3, 0xa0e5fc15b3973cac),
+            (4, 0x0f50c8ce982f056a),
+            (5, 0x612229f56c102b71),
+            (25, 67),
+        ],
+        bytes: 416,
+        status: Status::FileRefused,
+        out: "refused G9 section=33 at=2\n",
     },
 ];
 
-/// The bytes of a case.
-fn case_bytes(alloc: Global, case: &FileCase) -> Result<Vec<u8>, Fail> {
-    let mut words = TRIANGLE_IMAGE;
-    for &(at, word) in case.changes {
+/// The number of the refusal of the triangle's file in form 1 with the lowest bit of one word flipped, by that word.
+const OLD_FLIPPED: &str = "2355554444444445555555555555555555555555555555555555";
+
+const FILES: [FileCase; 9] = [
+    FileCase {
+        shows: "the image of the triangle",
+        changes: &[],
+        bytes: 432,
+        status: Status::Done,
+        out: "lawful 3 3 1 1 0\n",
+    },
+    FileCase {
+        shows: "a byte less",
+        changes: &[],
+        bytes: 431,
+        status: Status::FileRefused,
+        out: "refused G1 bytes=431\n",
+    },
+    FileCase {
+        shows: "all words but the last",
+        changes: &[],
+        bytes: 424,
+        status: Status::FileRefused,
+        out: "refused G4 want=54 have=53\n",
+    },
+    FileCase {
+        shows: "form 3",
+        changes: &[(1, 3)],
+        bytes: 432,
+        status: Status::FileRefused,
+        out: "refused G3 form=3\n",
+    },
+    FileCase {
+        shows: "the words of form 2 as form 1",
+        changes: &[(1, 1)],
+        bytes: 432,
+        status: Status::FileRefused,
+        out: "refused G4 want=52 have=54\n",
+    },
+    FileCase {
+        shows: "as many edges as a word can tell",
+        changes: &[(6, 18446744073709551615)],
+        bytes: 432,
+        status: Status::FileRefused,
+        out: "refused G4 want=50188114247416807457 have=54\n",
+    },
+    FileCase {
+        shows: "a node with the id 0",
+        changes: &[
+            (2, 0xed8d3d96eca0da0d),
+            (3, 0xfef78902e6cb25a6),
+            (4, 0xbbadb2cfb605aa11),
+            (5, 0x0c8d265e86e1faf4),
+            (27, 4611686018427387904),
+        ],
+        bytes: 432,
+        status: Status::FileRefused,
+        out: "refused G9 section=33 at=0\n",
+    },
+    FileCase {
+        shows: "a node whose id has 64 bits",
+        changes: &[
+            (2, 0x62beb3e768d354d1),
+            (3, 0x60b8728d2fce9093),
+            (4, 0xb7b9953a3b21789c),
+            (5, 0xdf031bf19d498e53),
+            (25, 67),
+        ],
+        bytes: 432,
+        status: Status::FileRefused,
+        out: "refused G9 section=33 at=2\n",
+    },
+    FileCase {
+        shows: "an order of nodes that names one twice",
+        changes: &[
+            (2, 0x6a73a07ccad0b24f),
+            (3, 0xeed242dbbac6f865),
+            (4, 0xb41939cf86f01f6a),
+            (5, 0x34009fda13d58148),
+            (30, 32),
+        ],
+        bytes: 432,
+        status: Status::FileRefused,
+        out: "refused G9 section=34 at=1\n",
+    },
+];
+
+/// The same of its image.
+const FLIPPED: &str = "235555444444444555555555555555555555555555555555555555";
+
+/// The bytes of these words, some of them changed.
+fn changed_bytes(alloc: Global, image: &[u64], changes: &[(usize, u64)]) -> Result<Vec<u8>, Fail> {
+    let mut words = Vec::new(alloc);
+    words.extend_from_slice(image)?;
+    for &(at, word) in changes {
         if at < words.len() {
             words[at] = word;
         }
     }
-    let mut bytes = bytes_of(alloc, &words)?;
-    bytes.truncate(case.bytes);
-    Ok(bytes)
+    bytes_of(alloc, &words)
+}
+
+/// How `check` ends of a file of these bytes, and what it tells.
+fn checked<L: Ledger>(
+    alloc: Global,
+    bytes: &[u8],
+    steps: &mut Steps<L>,
+) -> Result<(Status, Vec<u8>), Fail> {
+    let mut shelf = MemoryShelf::new(alloc, &[]);
+    shelf.add("map.pemb", bytes)?;
+    let mut out = MemorySink::new(alloc, &[]);
+    let status = run_unasked(alloc, &["check", "map.pemb"], &mut shelf, &mut out, steps)?;
+    let mut told = Vec::new(alloc);
+    told.extend_from_slice(out.bytes())?;
+    Ok((status, told))
 }
 
 /// Whether `check` tells of a file what it has to.
 fn checks_well<L: Ledger>(
     alloc: Global,
+    image: &[u64],
     case: &FileCase,
     steps: &mut Steps<L>,
 ) -> Result<bool, Fail> {
-    let mut shelf = MemoryShelf::new(alloc, &[]);
-    shelf.add("map.pemb", &case_bytes(alloc, case)?)?;
-    let mut out = MemorySink::new(alloc, &[]);
-    let status = run_unasked(alloc, &["check", "map.pemb"], &mut shelf, &mut out, steps)?;
-    Ok(status == case.status && out.bytes() == case.out.as_bytes())
+    let mut bytes = changed_bytes(alloc, image, case.changes)?;
+    bytes.truncate(case.bytes);
+    let (status, told) = checked(alloc, &bytes, steps)?;
+    Ok(status == case.status && told.as_slice() == case.out.as_bytes())
+}
+
+/// Whether a file with the lowest bit of one word flipped is refused with the number of that word, each by itself.
+fn flips_well<L: Ledger>(
+    alloc: Global,
+    image: &[u64],
+    numbers: &str,
+    steps: &mut Steps<L>,
+) -> Result<bool, Fail> {
+    for (at, &number) in numbers.as_bytes().iter().enumerate() {
+        let word = image.get(at).copied().unwrap_or(0);
+        let bytes = changed_bytes(alloc, image, &[(at, word ^ 1)])?;
+        let (status, told) = checked(alloc, &bytes, steps)?;
+        if status != Status::FileRefused || told.get(9) != Some(&number) {
+            return Ok(false);
+        }
+    }
+    Ok(true)
 }
 
 /// What the first file shows of which `check` tells something else.
-fn first_wrong_check<L: Ledger>(alloc: Global, blank: Blank) -> Result<Option<&'static str>, Fail>
+fn first_wrong_check<L: Ledger>(
+    alloc: Global,
+    image: &[u64],
+    files: &[FileCase],
+    flipped: &str,
+    blank: Blank,
+) -> Result<Option<&'static str>, Fail>
     requires name { blank.name ≡ L.name }
     requires parts { blank.parts ≡ L.parts }
     requires some { 0 < blank.parts }
 {
     let mut steps = Steps::<L>::new(alloc, blank);
-    for case in &FILES {
-        if !checks_well(alloc, case, &mut steps)? {
+    for case in files {
+        if !checks_well(alloc, image, case, &mut steps)? {
             return Ok(Some(case.shows));
         }
+    }
+    if !flips_well(alloc, image, flipped, &mut steps)? {
+        return Ok(Some("a flipped bit"));
     }
     Ok(None)
 }
 
+/// What a file of form 2 shows of which `check` tells something else.
+fn first_wrong_file<L: Ledger>(alloc: Global, blank: Blank) -> Result<Option<&'static str>, Fail>
+    requires name { blank.name ≡ L.name }
+    requires parts { blank.parts ≡ L.parts }
+    requires some { 0 < blank.parts }
+{
+    first_wrong_check::<L>(alloc, &TRIANGLE_IMAGE, &FILES, FLIPPED, blank)
+}
+
+/// The same of a file of form 1.
+fn first_wrong_old_file<L: Ledger>(
+    alloc: Global,
+    blank: Blank,
+) -> Result<Option<&'static str>, Fail>
+    requires name { blank.name ≡ L.name }
+    requires parts { blank.parts ≡ L.parts }
+    requires some { 0 < blank.parts }
+{
+    first_wrong_check::<L>(alloc, &OLD_TRIANGLE, &OLD_FILES, OLD_FLIPPED, blank)
+}
+
 #[test]
 fn files_are_checked(rt: HostRuntime) -> Result<(), Fail> {
-    let wrong = first_wrong_check::<Brand>(rt.alloc(), Blank::new(1))?;
+    let wrong = first_wrong_file::<Brand>(rt.alloc(), Blank::new(1))?;
     assert_eq!(rt; wrong, None);
+    Ok(())
+}
+
+#[test]
+fn old_files_are_checked(rt: HostRuntime) -> Result<(), Fail> {
+    let wrong = first_wrong_old_file::<Brand>(rt.alloc(), Blank::new(1))?;
+    assert_eq!(rt; wrong, None);
+    Ok(())
+}
+
+/// Whether the island's file in form 1 is answered as its tables are.
+fn answers_old_isle<L: Ledger>(alloc: Global, blank: Blank) -> Result<bool, Fail>
+    requires name { blank.name ≡ L.name }
+    requires parts { blank.parts ≡ L.parts }
+    requires some { 0 < blank.parts }
+{
+    let mut shelf = MemoryShelf::new(alloc, &[]);
+    shelf.add("map.pemb", &bytes_of(alloc, &OLD_ISLE)?)?;
+    let mut steps = Steps::<L>::new(alloc, blank);
+    let words = ["query", "map.pemb"];
+    answers_well(alloc, &words, &ISLE_WITH_REGIONS, &mut shelf, &mut steps)
+}
+
+#[test]
+fn old_files_are_answered(rt: HostRuntime) -> Result<(), Fail> {
+    assert!(rt; answers_old_isle::<Brand>(rt.alloc(), Blank::new(1))?);
     Ok(())
 }
 
@@ -1308,7 +1765,7 @@ fn files_of_the_system_are_built_and_checked(rt: HostRuntime) -> Result<(), Fail
     let wanted = b"built 3 3 1 1 0\nlawful 3 3 1 1 0\n";
     assert_eq!(rt; out.as_slice(), wanted.as_slice());
     let image = image?;
-    assert!(rt; holds_front(rt.alloc(), Some(&image), Some(280))?);
+    assert!(rt; holds_front(rt.alloc(), Some(&image), Some(432))?);
     Ok(())
 }
 

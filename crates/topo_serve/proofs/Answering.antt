@@ -2,10 +2,11 @@
 use Rattle.std.proofs.Common.{◌≡◌, ℕ, ◌+◌, ◌≤◌, OnOk, List, [], ◌∷◌, ◌++◌, flat_map, map, Bool, true, false, Result, Ok, Err, sym, ap, ◌∙◌, append_assoc}
 use Rattle.std.specs.Prelude.{codes, IsErrAnd}
 use Rattle.topo_base.specs.Script as script
-use Rattle.topo_base.specs.Script.{Item, Line, item_text, text}
+use Rattle.topo_base.specs.Script.{Item, Line, item_text, line, text, without_cr}
 use Rattle.plane_model.specs.PlaneMap.{PlaneMap}
 use Rattle.plane_model.specs.Answers.{where_known, after_colon, items, answer_to, line_walked, items_listed}
 use Rattle.query_text.specs.Lines.{IsAsk, IfAsk}
+use Rattle.query_text.proofs.Texts.{said_text}
 use Rattle.navigate.specs.Bound.{most_words}
 use Rattle.topo_serve.specs.Gathering.{Out, Writes}
 use Rattle.topo_serve.specs.Serving.{found_for, found_in, words_of_query}
@@ -23,6 +24,13 @@ written_unknown r a b known xs k w = rw (← k) w
 
 pub two_numbers : (a b c d : ℕ) → a ≡ c → b ≡ d → flat_map item_text (map Item.Number (a ∷ b ∷ [])) ≡ flat_map item_text (map Item.Number (c ∷ d ∷ []))
 two_numbers a b c d e f = ap (λ x. flat_map item_text (map Item.Number (x ∷ b ∷ []))) e ∙ ap (λ y. flat_map item_text (map Item.Number (c ∷ y ∷ []))) f
+
+-- the text of a query is the line that asks it
+pub head_text : (l : Line) (bytes : List ℕ) → l ≡ line bytes → IfAsk l (λ q. without_cr bytes ++ codes ":" ≡ text q ++ codes ":")
+head_text script.Long bytes e = tt
+head_text script.Blank bytes e = tt
+head_text script.Bad bytes e = tt
+head_text (script.Ask q) bytes e = ap (λ z. z ++ codes ":") (said_text bytes q (sym e))
 
 -- the head of an answer, its items and its end
 pub query_written : {X E Y F : Type 0} (x : Y) (r : Result X E) (m : PlaneMap) (l : Line) (a b c d : Out) (head : List ℕ) → IsAsk l → IfAsk l (λ q. head ≡ text q ++ codes ":")

@@ -1,9 +1,10 @@
 -- The front of a line that is kept.
-use Rattle.std.proofs.Common.{◌≡◌, ℕ, zero, suc, ◌+◌, ◌≤◌, ◌<◌, List, [], ◌∷◌, ◌++◌, length, take, min, inl, inr, refl, sym, ap, ◌∙◌, arith}
+use Rattle.std.proofs.Common.{◌≡◌, ℕ, zero, suc, ◌+◌, ◌≤◌, ◌<◌, List, [], ◌∷◌, ◌++◌, length, take, min, inl, inr, refl, sym, ap, subst, ◌∙◌, arith}
 use Rattle.std.specs.Prelude.{nat_lt, true, false, ◌==◌, if◌then◌else◌, ◌⊎◌}
 use Rattle.std.proofs.lemmas.Bool.Decides.{nat_tests}
 use Rattle.std.proofs.lemmas.List.{take_min, take_all, length-take-le}
 use Rattle.topo_base.specs.Script.{Line, line, without_cr}
+use Rattle.query_text.specs.Lines.{IsAsk}
 use Rattle.topo_serve.specs.Pieces.{cut}
 
 -- bytes behind a front that fits
@@ -36,10 +37,18 @@ bare_length [] = omega arith
 bare_length (b ∷ []) = elim (b == 13) as (λ v. 1 ≤ length (if v then [] else b ∷ []) + 1) [ true ↦ omega arith | false ↦ omega arith ]
 bare_length (b ∷ c ∷ xs) = omega (arith, bare_length (c ∷ xs))
 
-is_long : (xs : List ℕ) → 257 ≤ length xs → line xs ≡ Line.Long
-is_long xs many =
-    let more : nat_lt 255 (length (without_cr xs)) ≡ true = grind (arith, nat_tests, many, bare_length xs) in
+-- a line of more than 255 bytes
+long_line : (xs : List ℕ) → 256 ≤ length (without_cr xs) → line xs ≡ Line.Long
+long_line xs many =
+    let more : nat_lt 255 (length (without_cr xs)) ≡ true = grind (arith, nat_tests, many) in
     rw more refl
+
+is_long : (xs : List ℕ) → 257 ≤ length xs → line xs ≡ Line.Long
+is_long xs many = long_line xs (omega (arith, many, bare_length xs))
+
+-- a line that asks a query has at most 255 bytes
+pub ask_short : (xs : List ℕ) → IsAsk (line xs) → length (without_cr xs) ≤ 255
+ask_short xs asks = elim (le_or_more (length (without_cr xs)) 255) [ inl p ↦ p | inr q ↦ absurd (subst IsAsk (long_line xs (omega (arith, q))) asks) ]
 
 -- what is kept of a line says what the line says
 pub same_line : (kept xs : List ℕ) → kept ≡ cut xs → line kept ≡ line xs

@@ -1,8 +1,17 @@
 -- Lines that end in some bytes.
-use Rattle.std.proofs.Common.{◌≡◌, ℕ, zero, suc, ◌<◌, List, [], ◌∷◌, ◌++◌, length, take, drop, refl, sym, ap, ◌∙◌, append_assoc, append-nil, arith}
-use Rattle.std.specs.Prelude.{◌==◌, false, slice_index}
-use Rattle.std.proofs.lemmas.Bool.{ne_eqb}
+use Rattle.std.proofs.Common.{◌≡◌, ℕ, zero, suc, ◌<◌, List, [], ◌∷◌, ◌++◌, length, take, drop, Option, None, Some, refl, sym, ap, ◌∙◌, append_assoc, append-nil, arith}
+use Rattle.std.specs.Prelude.{◌==◌, false, slice_index, MatchOption}
+use Rattle.std.proofs.lemmas.Bool.{ne_eqb, eqb-true}
+use Rattle.memchr.specs.Find.{IsFirstByte, Nowhere, Passes, is_byte}
 use Rattle.topo_serve.specs.Pieces.{ended_behind, open_behind, last_line, HasNoFeed}
+
+no_feed : (bytes : List ℕ) (end : ℕ) → Nowhere (Passes (is_byte 10) bytes) 0 end → HasNoFeed end bytes
+no_feed bytes end none = λ k low feed. none k (omega arith) low (rw feed refl)
+
+-- the first byte that is a line feed
+pub first_feed : (bytes : List ℕ) (found : Option ℕ) → IsFirstByte (is_byte 10) bytes found → MatchOption found (HasNoFeed (length bytes) bytes) (λ end. (end < length bytes) × (slice_index bytes end ≡ 10) × HasNoFeed end bytes)
+first_feed bytes None none = no_feed bytes (length bytes) none
+first_feed bytes (Some end) first = (first.0.high, eqb-true (slice_index bytes end) 10 first.1, no_feed bytes end first.0.before)
 
 pub first_ended : (front bytes : List ℕ) (i : ℕ) → i < length bytes → slice_index bytes i ≡ 10 → HasNoFeed i bytes → ended_behind front bytes ≡ (front ++ take i bytes) ∷ ended_behind [] (drop (suc i) bytes)
 unfolding ended_behind

@@ -48,49 +48,54 @@ over_one f xs l = over_more f xs (l ∷ []) ∙ omega arith
 answers_one : (m : PlaneMap) (xs : List (List ℕ)) (l : List ℕ) → flat_map (answer m) (xs ++ l ∷ []) ≡ flat_map (answer m) xs ++ answer m l
 answers_one m xs l = answers_more m xs (l ∷ []) ∙ ap (λ z. flat_map (answer m) xs ++ z) (append-nil (answer m l))
 
--- a line of which as much is kept as is looked at
-pub record IsKept (m : PlaneMap) (l kept : List ℕ) : Type 0 where
-  pub answer_same : answer m kept ≡ answer m l
-  pub found_same : found_by_reads m kept ≡ found_by_reads m l
-  pub words_same : words_of_line m kept ≡ words_of_line m l
+-- a line of which as much is kept as is looked at is answered as it is
+pub line_answered : {X E : Type 0} (r : Result X E) (m : PlaneMap) (l kept : List ℕ) (a b : Out) → kept ≡ cut l → Writes r a b (answer m kept) → Writes r a b (answer m l)
+line_answered r m l kept a b e w = rw (← ap (answer_to m) (same_line kept l e)) w
 
-pub kept_line : (m : PlaneMap) (l kept : List ℕ) → kept ≡ cut l → IsKept m l kept
-kept_line m l kept e = let same : line kept ≡ line l = same_line kept l e in record {
-  answer_same = ap (answer_to m) same;
-  found_same = ap (found_in m) same;
-  words_same = ap (λ x. most_words m (line_walked m x) (items_listed m x)) same;
-}
+pub line_found : (m : PlaneMap) (l kept : List ℕ) → kept ≡ cut l → found_by_reads m kept ≡ found_by_reads m l
+line_found m l kept e = ap (found_in m) (same_line kept l e)
 
-pub answered_more : {X E : Type 0} (x : X) (m : PlaneMap) (start piece front rest l kept more : List ℕ) (s t u : ℕ) (a b c : Out)
+pub line_words : (m : PlaneMap) (l kept : List ℕ) → kept ≡ cut l → words_of_line m kept ≡ words_of_line m l
+line_words m l kept e = ap (λ x. most_words m (line_walked m x) (items_listed m x)) (same_line kept l e)
+
+pub no_items : (front : List ℕ) → length front ≡ 0 → front ≡ []
+no_items [] none = refl
+no_items (b ∷ front) none = absurd (omega (arith, none))
+
+-- a line that has no front
+pub front_none : (front end : List ℕ) → length front ≡ 0 → front ++ end ≡ end
+front_none [] end none = refl
+front_none (b ∷ front) end none = absurd (omega (arith, none))
+
+pub answered_more : {X E : Type 0} (x : X) (m : PlaneMap) (start piece front rest l more : List ℕ) (s t u : ℕ) (a b c : Out)
     → IsAnswered m start piece front rest s t a b → ended_behind front rest ≡ l ∷ ended_behind [] more → open_behind front rest ≡ open_behind [] more
-    → IsKept m l kept → Writes {X = X} {E = E} (Ok x) b c (answer m kept) → t + found_by_reads m kept ≤ u → u ≤ t + words_of_line m kept
+    → Writes {X = X} {E = E} (Ok x) b c (answer m l) → t + found_by_reads m l ≤ u → u ≤ t + words_of_line m l
     → IsAnswered m start piece [] more s u a c
-answered_more x m start piece front rest l kept more s t u a b c p e o k w least most = record {
+answered_more x m start piece front rest l more s t u a b c p e o w least most = record {
   done = p.done ++ l ∷ [];
   split = p.split ∙ ap (λ z. p.done ++ z) e ∙ sym (append_assoc p.done (l ∷ []) (ended_behind [] more));
   opens = p.opens ∙ o;
-  writes = rw (answers_one m p.done l, ← k.answer_same) (writes_more tt (Ok tt) a b c (flat_map (answer m) p.done) (answer m kept) p.writes (writes_ok x tt b c (answer m kept) w));
-  least = omega (arith, p.least, least, k.found_same, over_one (found_by_reads m) p.done l);
-  most = omega (arith, p.most, most, k.words_same, over_one (words_of_line m) p.done l);
+  writes = rw (answers_one m p.done l) (writes_more tt (Ok tt) a b c (flat_map (answer m) p.done) (answer m l) p.writes (writes_ok x tt b c (answer m l) w));
+  least = omega (arith, p.least, least, over_one (found_by_reads m) p.done l);
+  most = omega (arith, p.most, most, over_one (words_of_line m) p.done l);
 }
 
 -- where writing the answer to the next line failed
-pub answered_part : {X E Y F : Type 0} (r : Result X E) (P : E → Type 0) (f : F) (m : PlaneMap) (start piece front rest l kept more : List ℕ) (s t : ℕ) (a b c : Out)
-    → IsAnswered m start piece front rest s t a b → ended_behind front rest ≡ l ∷ ended_behind [] more → IsKept m l kept → IsErrAnd r P → Writes {X = Y} {E = F} (Err f) b c (answer m kept)
+pub answered_part : {X E Y F : Type 0} (r : Result X E) (P : E → Type 0) (f : F) (m : PlaneMap) (start piece front rest l more : List ℕ) (s t : ℕ) (a b c : Out)
+    → IsAnswered m start piece front rest s t a b → ended_behind front rest ≡ l ∷ ended_behind [] more → IsErrAnd r P → Writes {X = Y} {E = F} (Err f) b c (answer m l)
     → Writes r a c (flat_map (answer m) (ended_behind start piece))
-answered_part r P f m start piece front rest l kept more s t a b c p e k is w =
-    let all : flat_map (answer m) (ended_behind start piece) ≡ flat_map (answer m) p.done ++ (answer m kept ++ flat_map (answer m) (ended_behind [] more)) =
-    ap (flat_map (answer m)) (p.split ∙ ap (λ z. p.done ++ z) e) ∙ answers_more m p.done (l ∷ ended_behind [] more)
-    ∙ ap (λ z. flat_map (answer m) p.done ++ (z ++ flat_map (answer m) (ended_behind [] more))) (sym k.answer_same) in
-    rw all (writes_more tt r a b c (flat_map (answer m) p.done) (answer m kept ++ flat_map (answer m) (ended_behind [] more)) p.writes
-    (writes_failed r P f b c (answer m kept) (flat_map (answer m) (ended_behind [] more)) is w))
+answered_part r P f m start piece front rest l more s t a b c p e is w =
+    let all : flat_map (answer m) (ended_behind start piece) ≡ flat_map (answer m) p.done ++ (answer m l ++ flat_map (answer m) (ended_behind [] more)) =
+    ap (flat_map (answer m)) (p.split ∙ ap (λ z. p.done ++ z) e) ∙ answers_more m p.done (l ∷ ended_behind [] more) in
+    rw all (writes_more tt r a b c (flat_map (answer m) p.done) (answer m l ++ flat_map (answer m) (ended_behind [] more)) p.writes
+    (writes_failed r P f b c (answer m l) (flat_map (answer m) (ended_behind [] more)) is w))
 
-pub paid_part : (m : PlaneMap) (start piece front rest l kept more : List ℕ) (s t u : ℕ) (a b : Out)
-    → IsAnswered m start piece front rest s t a b → ended_behind front rest ≡ l ∷ ended_behind [] more → IsKept m l kept → u ≤ t + words_of_line m kept
+pub paid_part : (m : PlaneMap) (start piece front rest l more : List ℕ) (s t u : ℕ) (a b : Out)
+    → IsAnswered m start piece front rest s t a b → ended_behind front rest ≡ l ∷ ended_behind [] more → u ≤ t + words_of_line m l
     → u ≤ s + over_lines (words_of_line m) (ended_behind start piece)
 unfolding over_lines
-paid_part m start piece front rest l kept more s t u a b p e k most =
-    omega (arith, p.most, most, k.words_same, ap (over_lines (words_of_line m)) (p.split ∙ ap (λ z. p.done ++ z) e), over_more (words_of_line m) p.done (l ∷ ended_behind [] more))
+paid_part m start piece front rest l more s t u a b p e most =
+    omega (arith, p.most, most, ap (over_lines (words_of_line m)) (p.split ∙ ap (λ z. p.done ++ z) e), over_more (words_of_line m) p.done (l ∷ ended_behind [] more))
 
 -- where no line ends in the rest
 pub done_all : (m : PlaneMap) (start piece front rest : List ℕ) (s t : ℕ) (a b : Out) → (p : IsAnswered m start piece front rest s t a b) → ended_behind front rest ≡ [] → ended_behind start piece ≡ p.done

@@ -1,6 +1,6 @@
 //! Answers on their way out: gathered until a buffer is full.
 
-ghost use Rattle.std.specs.Prelude.{◌≡◌, ◌≤◌, [], length, OnOk};
+ghost use Rattle.std.specs.Prelude.{◌≡◌, ◌≤◌, ◌+◌, ◌++◌, [], length, OnOk};
 ghost use Rattle.topo_serve.specs.Gathering.{out_at, Writes};
 
 use arrayvec::ArrayVec;
@@ -33,5 +33,23 @@ pub(crate) fn gather<K: Sink>(out: &mut K, text: &mut Gathered, bytes: &[u8]) ->
         put_out(out, text)?;
     }
     text.try_extend_from_slice(bytes).unwrap();
+    Ok(())
+}
+
+/// Gathers some bytes and others behind them.
+pub(crate) fn gather_both<K: Sink>(
+    out: &mut K,
+    text: &mut Gathered,
+    front: &[u8],
+    back: &[u8],
+) -> Result<(), Failed>
+    requires { length front.now + length back.now ≤ 256 }
+    ensures { Writes result (out_at (K.held out.old) (K.faults out.old) text.old.items) (out_at (K.held out.new) (K.faults out.new) text.new.items) (front.now ++ back.now) }
+{
+    if text.remaining_capacity() < front.len() + back.len() {
+        put_out(out, text)?;
+    }
+    text.try_extend_from_slice(front).unwrap();
+    text.try_extend_from_slice(back).unwrap();
     Ok(())
 }

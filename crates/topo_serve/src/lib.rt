@@ -4,10 +4,12 @@
 mod answer;
 mod fault;
 mod gathered;
+mod item;
 mod items;
 mod line;
 mod piece;
 mod serving;
+mod walks;
 
 pub use fault::ServeFault;
 pub use serving::serve;

@@ -48,22 +48,22 @@ fn next_piece<S: Source>(script: &mut S, buffer: &mut [u8], taken: usize) -> Res
 
 /// Answers the last line, which lacks a line feed, unless it is empty.
 fn answer_rest<K: Sink, C: Ledger>(
-    served: Served<'_>,
+    served: &Served<'_>,
     line: &[u8],
     marks: &mut Marks<'_>,
     out: &mut K,
     text: &mut Gathered,
     steps: &mut Steps<C>,
 ) -> Result<(), Failed>
-    requires room { length (contents_of_view served).faces < room_of marks.old }
+    requires room { length (contents_of_view served.now).faces < room_of marks.old }
     requires empty { IsEmpty marks.old }
     ensures room { room_of marks.new ≡ room_of marks.old }
     ensures empty { IsEmpty marks.new }
-    ensures writes { Writes result (out_at (K.held out.old) (K.faults out.old) text.old.items) (out_at (K.held out.new) (K.faults out.new) text.new.items) (flat_map (answer (served_map served.entry)) (last_line line.now)) }
+    ensures writes { Writes result (out_at (K.held out.old) (K.faults out.old) text.old.items) (out_at (K.held out.new) (K.faults out.new) text.new.items) (flat_map (answer (served_map served.now)) (last_line line.now)) }
     ensures written { OnOk result (text.old.items ≡ [] → text.new.items ≡ []) }
-    ensures least { OnOk result (steps.old + over_lines (found_by_reads (served_map served.entry)) (last_line line.now) ≤ steps.new) }
+    ensures least { OnOk result (steps.old + over_lines (found_by_reads (served_map served.now)) (last_line line.now) ≤ steps.new) }
     ensures grows { steps.old ≤ steps.new }
-    ensures paid { steps.new ≤ steps.old + over_lines (words_of_line (served_map served.entry)) (last_line line.now) }
+    ensures paid { steps.new ≤ steps.old + over_lines (words_of_line (served_map served.now)) (last_line line.now) }
 {
     if line.is_empty() {
         return Ok(());
@@ -108,7 +108,7 @@ pub fn serve<S: Source, K: Sink, C: Ledger>(
             Err(Failed) => return Err(ServeFault::ReadFault),
         };
         if count == 0 {
-            return match answer_rest(served, line.as_slice(), marks, out, &mut text, steps) {
+            return match answer_rest(&served, line.as_slice(), marks, out, &mut text, steps) {
                 Ok(()) => Ok(()),
                 Err(Failed) => Err(ServeFault::WriteFault),
             };
@@ -117,7 +117,7 @@ pub fn serve<S: Source, K: Sink, C: Ledger>(
             return Err(ServeFault::ScriptTooLong);
         }
         match answer_piece(
-            served,
+            &served,
             &buffer[..count],
             &mut line,
             marks,

@@ -7,5 +7,5 @@ use Rattle.topo_serve.proofs.answer.answer_counts.Goals as goal
 
 pub returns : goal.returns
 returns g c =
-    let contents = contents_of_view c.args.served in
-    same_bytes _ _ _ _ _ (listed_counts contents c.counts-counts.result (served_map c.args.served) c.counts-counts.ensures (counts_of_map contents c.args.served.whole)) c.list_numbers.ensures
+    let contents = contents_of_view c.args.served.now in
+    same_bytes _ _ _ _ _ (listed_counts contents c.counts-counts.result (served_map c.args.served.now) c.counts-counts.ensures (counts_of_map contents c.args.served.now.whole)) c.list_numbers.ensures

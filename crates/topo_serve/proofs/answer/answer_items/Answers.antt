@@ -23,7 +23,7 @@ returns-in-Node-clause-least g c =
 pub returns-in-Node-clause-paid : goal.returns-in-Node-clause-paid
 returns-in-Node-clause-paid g c =
     rw c.in-Node.is
-    (paid_round (served_map c.args.served) c.node_walk.result orbits.rest orbits.allowance Item.Signed_edge _ _ _ _ _ c.node_walk.ensures.known c.node_walk.ensures.list c.node_walk.ensures.paid c.list_known.ensures.paid)
+    (paid_round (served_map c.args.served.now) c.node_walk.result orbits.rest orbits.allowance Item.Signed_edge _ _ _ _ _ c.node_walk.ensures.known c.node_walk.ensures.list c.node_walk.ensures.paid c.list_known.ensures.paid)
 
 pub returns-in-Ring-clause-writes : goal.returns-in-Ring-clause-writes
 returns-in-Ring-clause-writes g c =
@@ -38,7 +38,7 @@ returns-in-Ring-clause-least g c =
 pub returns-in-Ring-clause-paid : goal.returns-in-Ring-clause-paid
 returns-in-Ring-clause-paid g c =
     rw c.in-Ring.is
-    (paid_round (served_map c.args.served) c.ring_walk.result orbits.rest orbits.allowance Item.Signed_edge _ _ _ _ _ c.ring_walk.ensures.known c.ring_walk.ensures.list c.ring_walk.ensures.paid c.list_known-in-Ring.ensures.paid)
+    (paid_round (served_map c.args.served.now) c.ring_walk.result orbits.rest orbits.allowance Item.Signed_edge _ _ _ _ _ c.ring_walk.ensures.known c.ring_walk.ensures.list c.ring_walk.ensures.paid c.list_known-in-Ring.ensures.paid)
 
 pub returns-in-Face-clause-writes : goal.returns-in-Face-clause-writes
 returns-in-Face-clause-writes g c =
@@ -53,7 +53,7 @@ returns-in-Face-clause-least g c =
 pub returns-in-Face-clause-paid : goal.returns-in-Face-clause-paid
 returns-in-Face-clause-paid g c =
     rw c.in-Face.is
-    (paid_round (served_map c.args.served) c.face_walk.result rings.rest rings.allowance Item.Signed_edge _ _ _ _ _ c.face_walk.ensures.known c.face_walk.ensures.list c.face_walk.ensures.paid c.list_known-in-Face.ensures.paid)
+    (paid_round (served_map c.args.served.now) c.face_walk.result rings.rest rings.allowance Item.Signed_edge _ _ _ _ _ c.face_walk.ensures.known c.face_walk.ensures.list c.face_walk.ensures.paid c.list_known-in-Face.ensures.paid)
 
 pub returns-in-Regions-clause-writes : goal.returns-in-Regions-clause-writes
 returns-in-Regions-clause-writes g c =
@@ -68,8 +68,8 @@ returns-in-Regions-clause-least g c =
 pub returns-in-Regions-clause-paid : goal.returns-in-Regions-clause-paid
 returns-in-Regions-clause-paid g c =
     rw c.in-Regions.is
-    (paid_listed (served_map c.args.served) c.region_walk.result (λ w. map Item.Number (regions.rest w)) regions.allowance _ _ _ _ _ c.region_walk.ensures.known (as_items c.region_walk.result regions.rest Item.Number _ c.region_walk.ensures.list)
-    (by_items (served_map c.args.served) c.region_walk.result regions.rest regions.allowance Item.Number _ _ c.region_walk.ensures.paid) c.list_known-in-Regions.ensures.paid)
+    (paid_listed (served_map c.args.served.now) c.region_walk.result (λ w. map Item.Number (regions.rest w)) regions.allowance _ _ _ _ _ c.region_walk.ensures.known (as_items c.region_walk.result regions.rest Item.Number _ c.region_walk.ensures.list)
+    (by_items (served_map c.args.served.now) c.region_walk.result regions.rest regions.allowance Item.Number _ _ c.region_walk.ensures.paid) c.list_known-in-Regions.ensures.paid)
 
 pub returns-in-Islands-clause-writes : goal.returns-in-Islands-clause-writes
 returns-in-Islands-clause-writes g c =
@@ -84,7 +84,7 @@ returns-in-Islands-clause-least g c =
 pub returns-in-Islands-clause-paid : goal.returns-in-Islands-clause-paid
 returns-in-Islands-clause-paid g c =
     rw c.in-Islands.is
-    (paid_listed (served_map c.args.served) c.island_walk.result islands.rest islands.allowance _ _ _ _ _ c.island_walk.ensures.known c.island_walk.ensures.list c.island_walk.ensures.paid c.list_known-in-Islands.ensures.paid)
+    (paid_listed (served_map c.args.served.now) c.island_walk.result islands.rest islands.allowance _ _ _ _ _ c.island_walk.ensures.known c.island_walk.ensures.list c.island_walk.ensures.paid c.list_known-in-Islands.ensures.paid)
 
 pub returns-in-Common-clause-writes : goal.returns-in-Common-clause-writes
 returns-in-Common-clause-writes g c = rw c.in-Common.is c.answer_common.ensures.writes

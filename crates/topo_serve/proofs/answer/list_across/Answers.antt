@@ -12,7 +12,7 @@ loop-face-preserved g c =
     let shorter = ap length next in
     let least = c.in-Some.ensures.least refl in
     let kept = c.loop-face.invariant in (
-      listed_more _ _ _ _ _ _ _ _ _ kept.0 (ap (map Item.Number) next) (c.as_slice.ensures.value ∙ c.number_item.ensures) c.in_ok-gather.ensures,
+      listed_more _ _ _ _ _ _ _ _ kept.0 (ap (map Item.Number) next) c.in_ok-gather_item.ensures,
       c.in-Some.ensures.contents ∙ kept.1,
       c.in-Some.ensures.room ∙ kept.2,
       c.in-Some.ensures.marks,
@@ -21,6 +21,6 @@ loop-face-preserved g c =
       omega (arith, kept.6, c.in-Some.ensures.paid),
     )
 
-pub returns-in_err-gather-clause-writes : goal.returns-in_err-gather-clause-writes
-returns-in_err-gather-clause-writes g c =
-    listed_part _ _ _ _ _ _ _ _ _ _ _ c.loop-face.invariant.0 (ap (map Item.Number) c.in-Some.ensures.next) (c.as_slice.ensures.value ∙ c.number_item.ensures) c.from_residual.ensures.1 c.in_err-gather.ensures
+pub returns-in_err-gather_item-clause-writes : goal.returns-in_err-gather_item-clause-writes
+returns-in_err-gather_item-clause-writes g c =
+    listed_part _ _ _ _ _ _ _ _ _ _ c.loop-face.invariant.0 (ap (map Item.Number) c.in-Some.ensures.next) c.from_residual.ensures.1 c.in_err-gather_item.ensures
