@@ -14,7 +14,7 @@ edge_id,start_node,end_node,next_left_edge,abs_next_left_edge,"next_right_edge",
 2147483647,"4",4,7,7,-7,7,0,2147483647
 """
 
-LARGEST = 2147483647
+LARGEST = 9223372036854775807
 NEEDED = [
     ("edge_id", "EdgeId", 1, False),
     ("start_node", "StartNode", 1, False),

@@ -1,12 +1,14 @@
 #!/usr/bin/env python3
-"""Damages a file 2,000 times and says of each copy, with the digest that it has and with the right one, whether it is
-lawful, or else the refusal. Written by docs/file.md and docs/definitions.md, with no code of the program; the tests
-`damaged` of crates/pemb_file, `damaged_files` and `hostile_scripts` of crates/topo_serve compare the program with it.
+"""Damages files 2,000 times, of form 1 and of form 2 in turn, and says of each copy, with the digest that it has and
+with the right one, whether it is lawful, or else the refusal, and what the lawful ones answer. Written by docs/file.md
+and docs/definitions.md, with no code of the program; the tests `damaged_files` and `hostile_scripts` of
+crates/topo_serve compare the program with it.
 
     python3 bench/damaged.py           a line for each copy
-    python3 bench/damaged.py table     the letters and the sum that the test has
+    python3 bench/damaged.py table     the letters and the sums that the test has
     python3 bench/damaged.py script    the size, the lines and the sum of the answers to a script of random bytes
     python3 bench/damaged.py lawful    each lawful copy once: its changed words, the sum of its answers, and these
+    python3 bench/damaged.py words     the words of both files
 """
 
 import hashlib
@@ -14,19 +16,11 @@ import re
 import struct
 import sys
 
-# A triangle with a closed edge and an isolated node in it, and two regions.
-ISLAND = [
-    0x4F504F54424D4550, 0, 16428946874780189589, 358398784624327854, 15700949402493225439, 15286110560946408717,
-    4, 2, 2, 1, 2,
-    27, 4 << 32, 3, 2 << 32, 0, 5, 2 << 32, 0, 6 << 32, 8, 0, 2 + (4 << 32), 1 + (3 << 32), 5, 2, 3 + (1 << 32), 4,
-    1 + (3 << 32), 2 + (4 << 32), 2 << 32, 1 + (3 << 32), 1 + (2 << 32), 1 << 32, 1 << 32, 1 << 32, 2,
-    3, 2 << 32, 0, 1 + (2 << 32), 1 << 32, 2 << 32, 1,
-]
-
+MAGIC = 0x4F504F54424D4550
 MOST = 1 << 24
-LARGEST_ID = (1 << 31) - 1
-# Where the edge ids and their order begin, and the place of each edge in the order.
-EDGE_IDS, EDGE_ORDER, PLACE = 8 * 28, 8 * 30, [0, 2, 1, 3]
+LARGEST_ID = (1 << 63) - 1
+# How many bits an id has in each form.
+ID_BITS = {1: 31, 2: 63}
 COPIES = 2000
 SEED = 5
 
@@ -42,6 +36,10 @@ class Random:
         return (self.state >> 33) % max(bound, 1)
 
 
+# Where the places of edges begin in each form.
+EDGE_PLACES = {1: 8 * 39, 2: 8 * 43}
+
+
 def flip(data, at, bit):
     if at < len(data):
         data[at] ^= 1 << bit
@@ -51,6 +49,15 @@ def exchange(data, one, other, length):
     for i in range(length):
         if one + i < len(data) and other + i < len(data):
             data[one + i], data[other + i] = data[other + i], data[one + i]
+
+
+def exchange_places(data, one, other):
+    """Exchanges the places of two edges, which have three bits each."""
+    at = EDGE_PLACES[data[8]]
+    places = data[at] + (data[at + 1] << 8)
+    differ = (places >> 3 * one ^ places >> 3 * other) % 8
+    places ^= differ << 3 * one ^ differ << 3 * other
+    data[at], data[at + 1] = places % 256, places >> 8
 
 
 def lengthen(data, random, count):
@@ -64,7 +71,7 @@ def shorten(data, count):
 
 def damage(data, random):
     """One damage: bits flipped (anywhere, or low ones of fields), words or fields exchanged, cut or lengthened, a count
-    changed and the length as well, or two edges' ids exchanged with their places in the order."""
+    changed and the length as well, or two edges' places in the rising list exchanged."""
     size = len(data)
     kind = random.below(11)
     if kind < 2:
@@ -86,16 +93,14 @@ def damage(data, random):
         else:
             lengthen(data, random, count)
     elif kind < 10:
-        flip(data, 48 + 8 * random.below(5), random.below(3))
+        flip(data, 48 + 8 * random.below(9), random.below(3))
         count = random.below(15)
         if count < 3:
             shorten(data, 8 * count)
         else:
             data.extend(bytes(8 * (count - 3)))
     else:
-        one, other = random.below(4), random.below(4)
-        exchange(data, EDGE_IDS + 4 * one, EDGE_IDS + 4 * other, 4)
-        exchange(data, EDGE_ORDER + 4 * PLACE[one], EDGE_ORDER + 4 * PLACE[other], 4)
+        exchange_places(data, random.below(4), random.below(4))
 
 
 def seal(data):
@@ -112,24 +117,43 @@ def tree_words(count):
     return count if count < 2 else count + tree_words(-(-count // 2))
 
 
-def layout(m, t, k, i, r):
+def low_width(form, count):
+    """How many bits the low part of an id has, among so many names."""
+    return max(ID_BITS[form] - count.bit_length(), 1)
+
+
+def place_width(count):
+    return max(count.bit_length(), 1)
+
+
+def layout(form, m, t, k, i, r, *back):
     """Of each section its number, how many fields it has and of how many bits."""
     f, n = max(m - t, 0), k + t + i
 
+    def counted(number, bits):
+        return [(number, bits, 1), (number + 1, blocks(bits) + 1, 32)]
+
     def searched(number, bits):
-        return [(number, bits, 1), (number + 1, blocks(bits) + 1, 32), (number + 2, tree_words(blocks(bits)), 64)]
+        return counted(number, bits) + [(number + 2, tree_words(blocks(bits)), 64)]
+
+    def names(number, count, back):
+        return (
+            counted(number + 1, count + (1 << count.bit_length()))
+            + [(number + 3, count, low_width(form, count)), (number + 4, count, place_width(count))]
+            + counted(number + 5, count) + [(number + 7, back, place_width(count))]
+        )
 
     return (
-        [(1, 2 * m, 1), (2, blocks(2 * m) + 1, 32)] + searched(3, 2 * t) + searched(6, 2 * f)
-        + [(9, k + 1, 32), (10, m, 1), (11, n, 32), (12, n, 32), (13, m, 32), (14, m, 32), (15, f, 32), (16, f, 32)]
-        + [(17, k, 32), (18, k, 32), (19, i, 32)] + searched(20, 2 * r) + [(23, r, 32), (24, r, 32), (25, f + 1, 32)]
+        counted(1, 2 * m) + searched(3, 2 * t) + searched(6, 2 * f) + [(9, k + 1, 32), (10, m, 1)]
+        + names(30, n, back[0]) + names(40, m, back[1]) + names(50, f, back[2])
+        + [(17, k, 32), (18, k, 32), (19, i, 32)] + searched(20, 2 * r) + names(60, r, back[3]) + [(25, f + 1, 32)]
     )
 
 
-def cut_into_sections(words, counts):
+def cut_into_sections(words):
     """The fields of each section by its number, and the first word with a bit past what its section holds."""
-    found, padding, at = {}, None, 11
-    for number, count, width in layout(*counts):
+    found, padding, at = {}, None, 15
+    for number, count, width in layout(words[1], *words[6:15]):
         size = -(-count * width // 64)
         whole = sum(word << (64 * j) for j, word in enumerate(words[at:at + size]))
         found[number] = [(whole >> (width * j)) % 2**width for j in range(count)]
@@ -178,14 +202,58 @@ def wrong(want, found):
     return next((at for at in range(len(want)) if want[at] != found[at]), None)
 
 
-def misnamed(ids, order):
-    """The first place of an order of names that is wrong."""
-    before = 0
-    for at, number in enumerate(order):
-        if number >= len(ids) or not before < ids[number] <= LARGEST_ID:
-            return at
-        before = ids[number]
-    return None
+class Names:
+    """The names in the sections behind a number: the ids of a rising list, and the place in it of each number."""
+
+    def __init__(self, section, form, number):
+        self.number, self.form = number, form
+        self.high, self.counts, self.lows, self.places, self.marks, self.mark_counts, self.back = (
+            section[number + part] for part in range(1, 8))
+
+    def id_at(self, place):
+        """The id at a place of the list: its high part is the number of zeros before the one that it has."""
+        ones = [at for at, bit in enumerate(self.high) if bit]
+        return (ones[place] - place << low_width(self.form, len(self.places))) + self.lows[place]
+
+    def ids(self):
+        """The ids by number."""
+        return [self.id_at(place) for place in self.places]
+
+    def found_from(self, place):
+        """The number that the walk from a place comes to, if it comes to one."""
+        x, may_jump = place, True
+        for _ in range((len(self.places) + 2).bit_length() + 1):
+            if x >= len(self.places):
+                return None
+            if self.places[x] == place:
+                return x
+            if self.marks[x] and may_jump:
+                x, may_jump = self.back[sum(self.marks[:x])], False
+            else:
+                x = self.places[x]
+        return None
+
+    def fault(self):
+        """The section of the first fault, and what is said of it there."""
+        count, before = len(self.places), 0
+        at = wrong(directory(self.high), self.counts)
+        if at is not None:
+            return self.number + 2, at
+        if sum(self.high) != count:
+            return self.number + 1, sum(self.high)
+        for place in range(count):
+            if not before < self.id_at(place) < 1 << count.bit_length() + low_width(self.form, count):
+                return self.number + 3, place
+            before = self.id_at(place)
+        at = wrong(directory(self.marks), self.mark_counts)
+        if at is not None:
+            return self.number + 6, at
+        if sum(self.marks) != len(self.back):
+            return self.number + 5, sum(self.marks)
+        for number, place in enumerate(self.places):
+            if place >= count or self.found_from(place) != number:
+                return self.number + 4, number
+        return None
 
 
 def sequence_fault(section, t):
@@ -243,7 +311,13 @@ class Walk:
 
     def signed(self, section, p):
         """The signed edge at a position, as what orders it: its id, and 0 where it is forward."""
-        return section[13][self.edge[p]], 0 if self.first[p] == section[10][self.edge[p]] else 1
+        return section[40][self.edge[p]], 0 if self.first[p] == section[10][self.edge[p]] else 1
+
+
+def name_all(section, form, numbers):
+    """Puts the ids by number beside the sections that they are kept in."""
+    for number in numbers:
+        section[number] = Names(section, form, number).ids()
 
 
 def fault(data):
@@ -251,23 +325,27 @@ def fault(data):
     if len(data) % 8:
         return 1, "NotWords { bytes: %d }" % len(data)
     words = struct.unpack("<%dQ" % (len(data) // 8), data)
-    if len(words) < 11 or words[0] != ISLAND[0]:
+    if len(words) < 11 or words[0] != MAGIC:
         return 2, "NotPemb { words: %d }" % len(words)
-    if words[1]:
-        return 3, "UnknownForm { form: %d }" % words[1]
-    counts = m, t, k, i, r = words[6:11]
-    want = 11 + sum(-(-count * width // 64) for _, count, width in layout(*counts))
+    form = words[1]
+    if form not in ID_BITS:
+        return 3, "UnknownForm { form: %d }" % form
+    want = 15
+    if len(words) >= 15:
+        want += sum(-(-count * width // 64) for _, count, width in layout(form, *words[6:15]))
     if len(words) != want:
         return 4, "Length { want: %d, have: %d }" % (want, len(words))
     at = wrong(hashlib.sha256(data[48:]).digest(), data[16:48])
     if at is not None:
         return 5, "Digest { at: %d }" % at
+    m, t, k, i, r, *back = words[6:15]
     for word, holds in (
-        (6, m <= MOST), (7, t <= m), (8, k <= m and (k > 0 or m == 0)), (9, k + t + i <= MOST), (10, r <= MOST)
+        (6, m <= MOST), (7, t <= m), (8, k <= m and (k > 0 or m == 0)), (9, k + t + i <= MOST), (10, r <= MOST),
+        (11, back[0] <= k + t + i), (12, back[1] <= m), (13, back[2] <= m - t), (14, back[3] <= r),
     ):
         if not holds:
             return 6, "Count { word: %d, found: %d }" % (word, words[word])
-    section, padding = cut_into_sections(words, counts)
+    section, padding = cut_into_sections(words)
     told = sequence_fault(section, t)
     if told is not None:
         return 7, "Sequence(%s)" % told
@@ -279,10 +357,11 @@ def fault(data):
         if at is not None:
             return 8, "Directory { section: %d, at: %d, want: %d, found: %d }" % (
                 number, at, right[at], section[number][at])
-    for number in (11, 13, 15):
-        at = misnamed(section[number], section[number + 1])
-        if at is not None:
-            return 9, "Name { section: %d, at: %d }" % (number, at)
+    for number in (30, 40, 50):
+        told = Names(section, form, number).fault()
+        if told is not None:
+            return 9, "Name { section: %d, at: %d }" % told
+    name_all(section, form, (30, 40, 50))
     walk = Walk(section, t)
     told = place_fault(section, walk)
     if told is not None:
@@ -293,7 +372,7 @@ def fault(data):
             return 11, "Start { component: %d }" % component
     for number, at in (
         (20, unbalanced(section[20])), (21, wrong(directory(section[20]), section[21])),
-        (22, wrong(tree(section[20]), section[22])), (23, misnamed(section[23], section[24])),
+        (22, wrong(tree(section[20]), section[22])), Names(section, form, 60).fault() or (60, None),
         (25, next((at for at, region in enumerate(section[25]) if region > r), None)),
     ):
         if at is not None:
@@ -303,7 +382,7 @@ def fault(data):
 
 def place_fault(section, walk):
     """The first place or order that is wrong, as its section and where it stands there."""
-    faces, places, starts = len(section[15]), section[17], section[9]
+    faces, places, starts = len(section[50]), section[17], section[9]
     for component, place in enumerate(places):
         if place > faces or (place and walk.first_of_shell[place - 1] >= starts[component]):
             return 17, component
@@ -318,7 +397,7 @@ def place_fault(section, walk):
     before = None
     isolated = section[19]
     for at, place in enumerate(isolated):
-        key = place, section[11][len(section[11]) - len(isolated) + at]
+        key = place, section[30][len(section[30]) - len(isolated) + at]
         if place > faces or (before is not None and before >= key):
             return 19, at
         before = key
@@ -331,11 +410,12 @@ class Map:
     def __init__(self, data):
         words = struct.unpack("<%dQ" % (len(data) // 8), data)
         self.counts = m, t, k, i, r = words[6:11]
-        self.section, _ = cut_into_sections(words, self.counts)
+        self.section, _ = cut_into_sections(words)
+        name_all(self.section, words[1], (30, 40, 50, 60))
         self.walk = walk = Walk(self.section, t)
         self.at = {walk.signed(self.section, p): p for p in range(2 * m)}
         self.signed = {p: edge for edge, p in self.at.items()}
-        self.numbers = {number: {id: x for x, id in enumerate(self.section[number])} for number in (11, 13, 15, 23)}
+        self.numbers = {number: {id: x for x, id in enumerate(self.section[number])} for number in (30, 40, 50, 60)}
 
     def next(self, p):
         return self.walk.after[p if self.section[1][p] else self.walk.mate[p]]
@@ -349,7 +429,7 @@ class Map:
         return self.section[17][self.walk.component[p]] if shell is None else shell + 1
 
     def face_id(self, place):
-        return self.section[15][place - 1] if place else 0
+        return self.section[50][place - 1] if place else 0
 
     def orbit(self, step, p):
         found = [p]
@@ -381,13 +461,13 @@ class Map:
                 opened += 1
                 chain.append(opened)
                 if opened == number:
-                    return [self.section[23][x] for x in reversed(chain)]
+                    return [self.section[60][x] for x in reversed(chain)]
             else:
                 chain.pop()
 
     def places(self, texts):
         """The places of faces, None where there is no such face."""
-        return [0 if text == "0" else self.numbers[15].get(int(text), -1) + 1 or None for text in texts]
+        return [0 if text == "0" else self.numbers[50].get(int(text), -1) + 1 or None for text in texts]
 
     def items(self, form, texts):
         """The items of an answer, None where the map has no such id."""
@@ -396,7 +476,7 @@ class Map:
         if form == "counts":
             return [k + t + i, m, m - t, k, r]
         if form in ("node", "contains"):
-            node = self.numbers[11].get(int(texts[0]))
+            node = self.numbers[30].get(int(texts[0]))
             here = [p for p in self.signed if self.walk.node[p] == node]
             if node is None:
                 return None
@@ -411,7 +491,7 @@ class Map:
             if form in ("ring", "next"):
                 return edges(self.orbit(self.next, p) if form == "ring" else [self.next(p)])
             both = p, self.walk.mate[p]
-            return [self.section[11][self.walk.node[q]] if form == "ends" else self.face_id(self.face(q)) for q in both]
+            return [self.section[30][self.walk.node[q]] if form == "ends" else self.face_id(self.face(q)) for q in both]
         places = self.places(texts)
         if None in places:
             return None
@@ -422,7 +502,7 @@ class Map:
             return [self.face_id(place) for place in dict.fromkeys(across) if place != places[0]]
         if form == "islands":
             first = k + t
-            isolated = sorted(self.section[11][first + j] for j in range(i) if self.section[19][j] == places[0])
+            isolated = sorted(self.section[30][first + j] for j in range(i) if self.section[19][j] == places[0])
             return edges(self.rings(places[0])[1]) + ["n%d" % id for id in isolated]
         if form == "regions":
             return self.regions(places[0])
@@ -439,6 +519,8 @@ class Map:
         if not QUERY.fullmatch(line):
             return "bad\n"
         form, *texts = line.decode().split()
+        if any(abs(int(text)) > LARGEST_ID for text in texts):
+            return "bad\n"
         items = self.items(form, texts)
         return line.decode() + (": unknown" if items is None else ":" + "".join(" %s" % item for item in items)) + "\n"
 
@@ -488,7 +570,8 @@ common 1 2
 common 2 2
 common 0 1
 common 1 3
-node 2147483647
+node 9223372036854775807
+node 9223372036854775808
 ring -9
 face 01
 node x
@@ -498,11 +581,69 @@ node x
 ends 3"""
 
 
+def cycle_marks(places):
+    """Which numbers have a back pointer, and these: of each cycle of the places with more members than the stride, from
+    its least member on, every so manyth one goes back to the one before it."""
+    stride, marks, back, seen = (len(places) + 2).bit_length(), [0] * len(places), {}, set()
+    for least in range(len(places)):
+        cycle = [least]
+        while places[cycle[-1]] != least:
+            cycle.append(places[cycle[-1]])
+        if least not in seen and len(cycle) > stride:
+            marked = cycle[::stride]
+            for j, number in enumerate(marked):
+                marks[number], back[number] = 1, marked[j - 1]
+        seen.update(cycle)
+    return marks, [back[number] for number in sorted(back)]
+
+
+def named(form, ids):
+    """The seven parts of names with these ids by number, each as its fields and their width."""
+    rising, low = sorted(ids), low_width(form, len(ids))
+    high = []
+    for part in range(1 << len(ids).bit_length()):
+        high += [1] * sum(id >> low == part for id in ids) + [0]
+    places = [rising.index(id) for id in ids]
+    marks, back = cycle_marks(places)
+    width = place_width(len(ids))
+    return [
+        (high, 1), (directory(high), 32), ([id % (1 << low) for id in rising], low), (places, width),
+        (marks, 1), (directory(marks), 32), (back, width),
+    ]
+
+
+def packed(fields, width):
+    whole = sum(field << width * j for j, field in enumerate(fields))
+    return [whole >> 64 * j & (1 << 64) - 1 for j in range(-(-len(fields) * width // 64))]
+
+
+def island(form):
+    """The words of the file of a triangle with a closed edge and an isolated node in it, and two regions."""
+    code, trees, duals = [1, 1, 0, 1, 1, 0, 0, 0], [1, 1, 0, 0], [1, 0, 1, 0]
+    nodes, edges, faces, regions = (named(form, ids) for ids in ([2, 4, 1, 3, 5], [1, 3, 2, 4], [1, 2], [1, 2]))
+    sections = (
+        [(code, 1), (directory(code), 32)]
+        + [part for bits in (trees, duals) for part in ((bits, 1), (directory(bits), 32), (tree(bits), 64))]
+        + [([0, 6, 8], 32), ([0, 0, 0, 0], 1)] + nodes + edges + faces + [([0, 1], 32), ([0, 1], 32), ([2], 32)]
+        + [([1, 1, 0, 0], 1), (directory([1, 1, 0, 0]), 32), (tree([1, 1, 0, 0]), 64)] + regions + [([0, 2, 1], 32)]
+    )
+    counts = [4, 2, 2, 1, 2] + [len(parts[6][0]) for parts in (nodes, edges, faces, regions)]
+    words = [MAGIC, form, 0, 0, 0, 0] + counts + [word for section in sections for word in packed(*section)]
+    data = bytearray(struct.pack("<%dQ" % len(words), *words))
+    seal(data)
+    return bytes(data)
+
+
+def words_of(data):
+    return struct.unpack("<%dQ" % (len(data) // 8), data)
+
+
 def copies():
     """Each damaged copy, with the digest that it has and with the right one."""
     random = Random(SEED)
-    for _ in range(COPIES):
-        data = bytearray(struct.pack("<44Q", *ISLAND))
+    files = island(1), island(2)
+    for number in range(COPIES):
+        data = bytearray(files[number % 2])
         damage(data, random)
         sealed = bytearray(data)
         seal(sealed)
@@ -537,34 +678,38 @@ def summed(total, text):
 
 
 def main():
-    island = struct.pack("<44Q", *ISLAND)
-    assert fault(island) is None
+    assert fault(island(1)) is None and fault(island(2)) is None
     how = sys.argv[1] if len(sys.argv) > 1 else ""
+    if how == "words":
+        print(*(list(words_of(island(form))) for form in ID_BITS), sep="\n")
+        return
     if how == "script":
-        answers = Map(island).answer(random_script())
+        answers = Map(island(2)).answer(random_script())
         print(len(answers), answers.count("bad\n"), answers.count("long\n"), "0x%016x" % summed(EMPTY, answers))
         return
-    old, right, total, seen = "", "", EMPTY, set()
+    old, right, total, answered, seen = "", "", EMPTY, EMPTY, set()
     for number, (data, sealed) in enumerate(copies()):
         first, second = fault(data), fault(sealed)
         old += letter(first)
         right += letter(second)
-        for told in first, second:
+        for told, copy in (first, data), (second, sealed):
             total = summed(total, "" if told is None else told[1])
+            if told is None:
+                answered = summed(answered, Map(copy).answer(SCRIPT))
         if how == "":
             print("%d: %s, %s" % (number, line(first), line(second)))
         elif how == "lawful" and second is None and sealed not in seen:
             seen.add(sealed)
-            words = struct.unpack("<%dQ" % (len(sealed) // 8), sealed)
             answers = Map(sealed).answer(SCRIPT)
-            print([(at, word) for at, word in enumerate(words) if word != ISLAND[at]])
+            whole = words_of(island(words_of(sealed)[1]))
+            print([(at, word) for at, word in enumerate(words_of(sealed)) if word != whole[at]])
             print("0x%016x" % summed(EMPTY, answers))
             print(answers)
     if how == "table":
         for letters in old, right:
             print("\n".join(letters[at:at + 100] for at in range(0, COPIES, 100)))
             print()
-        print("0x%016x" % total)
+        print("0x%016x 0x%016x" % (total, answered))
     for name, letters in ("old", old), ("right", right):
         print(name, {each: letters.count(each) for each in sorted(set(letters))}, file=sys.stderr)
 

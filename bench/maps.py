@@ -93,6 +93,68 @@ def grid(folder, n):
     write_tables(folder, ((v, None) for v in range(1, (n + 1) ** 2 + 1)), grid_edges(n), range(1, n * n + 1))
 
 
+def mesh_edges(n):
+    """The edges of a grid of n by n cells, each cut from its south-west to its north-east corner: edges to the east, then
+    to the north, then across."""
+    easts, norths = n * (n + 1), n * (n + 1)
+
+    def east(r, c):
+        return 1 + r * n + c
+
+    def north(r, c):
+        return 1 + easts + r * (n + 1) + c
+
+    def across(r, c):
+        return 1 + easts + norths + r * n + c
+
+    def below(r, c):
+        return 1 + 2 * (r * n + c) if 0 <= r < n and 0 <= c < n else 0
+
+    def above(r, c):
+        return 2 + 2 * (r * n + c) if 0 <= r < n and 0 <= c < n else 0
+
+    def leaving(r, c, direction):
+        """The signed edge that leaves a node, clockwise from the north, or None."""
+        up, right = (r < n, c < n)
+        if direction == 0:
+            return north(r, c) if up else None
+        if direction == 1:
+            return across(r, c) if up and right else None
+        if direction == 2:
+            return east(r, c) if right else None
+        if direction == 3:
+            return -north(r - 1, c) if r > 0 else None
+        if direction == 4:
+            return -across(r - 1, c - 1) if r > 0 and c > 0 else None
+        return -east(r, c - 1) if c > 0 else None
+
+    def after(r, c, direction):
+        """The next of a signed edge that enters a node in a direction."""
+        for turn in range(1, 7):
+            edge = leaving(r, c, (direction + 3 + turn) % 6)
+            if edge is not None:
+                return edge
+        raise AssertionError("a node without edges")
+
+    def node(r, c):
+        return 1 + r * (n + 1) + c
+
+    for r in range(n + 1):
+        for c in range(n):
+            yield (east(r, c), node(r, c), node(r, c + 1), after(r, c + 1, 2), after(r, c, 5), below(r, c), above(r - 1, c))
+    for r in range(n):
+        for c in range(n + 1):
+            yield (north(r, c), node(r, c), node(r + 1, c), after(r + 1, c, 0), after(r, c, 3), below(r, c - 1), above(r, c))
+    for r in range(n):
+        for c in range(n):
+            yield (across(r, c), node(r, c), node(r + 1, c + 1), after(r + 1, c + 1, 1), after(r, c, 4), above(r, c), below(r, c))
+
+
+def mesh(folder, n):
+    """A mesh of triangles, two for each of n by n cells."""
+    write_tables(folder, ((v, None) for v in range(1, (n + 1) ** 2 + 1)), mesh_edges(n), range(1, 2 * n * n + 1))
+
+
 def size_of(folder):
     return sum(os.path.getsize(os.path.join(folder, name)) for name in os.listdir(folder))
 

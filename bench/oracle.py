@@ -12,7 +12,7 @@ import re
 import sys
 from collections import Counter
 
-MOST_ID = 2_147_483_647
+MOST_ID = 9_223_372_036_854_775_807
 MOST_ROWS = 16_777_216
 MOST_IN_LINE = 255
 
@@ -21,7 +21,7 @@ DONE, REFUSED, MISSING = 0, 2, 7
 
 # Numbers as they are spelled
 
-DIGITS = re.compile(rb"0|[1-9][0-9]{0,9}")
+DIGITS = re.compile(rb"0|[1-9][0-9]{0,18}")
 
 
 def plain(least):
