@@ -36,6 +36,11 @@ pub held_on_ok : {X E : Type 0} (r : Result X E) (bytes : List ℕ) (there : Opt
 held_on_ok (Ok x) bytes there is = (bytes, is)
 held_on_ok (Err e) bytes there is = tt
 
+-- what was put behind a name's bytes leaves the name held
+pub held_extended : {X E : Type 0} (r : Result X E) (name bytes : List ℕ) (before after : Files) → OnOk r (IsExtended name bytes before after) → OnOk r (IsHeld (Some after) name)
+held_extended (Ok x) name bytes before after is = (is.0 ++ bytes, is.2)
+held_extended (Err e) name bytes before after is = tt
+
 -- what stays is as it was, or nothing, or started
 pub on_err_stays : {X E : Type 0} (r : Result X E) (name : List ℕ) (before after : Files) → OnErr r (after ≡ before) → OnErr r (IsStartedAtMost name before after)
 on_err_stays (Ok x) name before after p = tt

@@ -63,6 +63,7 @@ pub trait Shelf {
     fn append(&mut self, name: &str, bytes: &[u8]) -> Result<(), Failed>
         requires { IsHeld (files self.old) name.now }
         ensures appended { OnOk result (WhereTold (IsExtended name.now bytes.now) (files self.old) (files self.new)) }
+        ensures held { OnOk result (IsHeld (files self.new) name.now) }
         ensures prefix { OnErr result (WhereTold (IsExtendedInPart name.now bytes.now) (files self.old) (files self.new)) }
         ensures others { WhereTold (OthersStay name.now) (files self.old) (files self.new) }
         ensures counted { CountsWrite result (write_faults self.old) (write_faults self.new) }

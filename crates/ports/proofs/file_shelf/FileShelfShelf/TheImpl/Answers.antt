@@ -32,6 +32,7 @@ start-tells g c = record {
 pub append-tells : goal.append-tells
 append-tells g c = record {
   appended = on_ok_always _ tt;
+  held = on_ok_always _ tt;
   prefix = on_err_always _ tt;
   others = tt;
   counted = c.ensures.counted;
