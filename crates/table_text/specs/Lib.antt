@@ -1,0 +1,2 @@
+pub mod RowsOfMap
+pub mod TextsRead

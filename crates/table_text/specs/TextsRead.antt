@@ -1,0 +1,17 @@
+-- What the texts of the five tables read as.
+use Rattle.std.specs.Prelude.{ℕ, List, Result, Ok}
+use Rattle.topo_base.specs.declared.refusal.Table.{Table}
+use Rattle.topo_base.specs.declared.refusal.Table.TheVariants as table
+use Rattle.topo_base.specs.declared.refusal.Refusal.{Refusal}
+use Rattle.plane_model.specs.Rows.{Rows}
+use Rattle.plane_model.specs.Reading.{◌>>=◌, node_rows, edge_rows, face_rows, region_rows, member_rows}
+
+-- the tables of five texts, which are read in this order, or the first refusal
+abbrev pub tables_read : (Table → List ℕ) → Result Rows Refusal
+tables_read text = do
+  nodes ← node_rows (text table.Node)
+  edges ← edge_rows (text table.Edge)
+  faces ← face_rows (text table.Face)
+  regions ← region_rows (text table.Region)
+  members ← member_rows (text table.Member)
+  Ok (record { nodes = nodes; edges = edges; faces = faces; regions = regions; members = members })

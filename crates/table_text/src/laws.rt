@@ -1,0 +1,31 @@
+//! Laws of the texts, each the contract of a function that does nothing.
+
+ghost use Rattle.std.specs.Prelude.{◌≡◌, IsTrue, Ok};
+ghost use Rattle.topo_base.specs.declared.refusal.Table.TheVariants as table;
+ghost use Rattle.plane_model.specs.Rows.{Rows};
+ghost use Rattle.plane_model.specs.PlaneMap.{Same, has_map, map_of};
+ghost use Rattle.plane_model.specs.InRange.{is_in_range};
+ghost use Rattle.plane_model.specs.Consistent.{is_consistent};
+ghost use Rattle.plane_model.specs.Reading.{edge_rows, face_rows, member_rows, node_rows, region_rows};
+ghost use Rattle.plane_model.specs.Texts.{table_text};
+ghost use Rattle.table_text.specs.RowsOfMap.{rows_of_map};
+ghost use Rattle.table_text.specs.TextsRead.{tables_read};
+
+/// Where tables are in range and have a map, the five texts of the map read as its rows, rising by id.
+pub fn texts_read()
+    ensures nodes { (t : Rows) → IsTrue (is_in_range t) → IsTrue (has_map t) → node_rows (table_text (map_of t) table.Node) ≡ Ok (rows_of_map (map_of t)).nodes }
+    ensures edges { (t : Rows) → IsTrue (is_in_range t) → IsTrue (has_map t) → edge_rows (table_text (map_of t) table.Edge) ≡ Ok (rows_of_map (map_of t)).edges }
+    ensures faces { (t : Rows) → IsTrue (is_in_range t) → IsTrue (has_map t) → face_rows (table_text (map_of t) table.Face) ≡ Ok (rows_of_map (map_of t)).faces }
+    ensures regions { (t : Rows) → IsTrue (is_in_range t) → IsTrue (has_map t) → region_rows (table_text (map_of t) table.Region) ≡ Ok (rows_of_map (map_of t)).regions }
+    ensures members { (t : Rows) → IsTrue (is_in_range t) → IsTrue (has_map t) → member_rows (table_text (map_of t) table.Member) ≡ Ok (rows_of_map (map_of t)).members }
+    ensures all { (t : Rows) → IsTrue (is_in_range t) → IsTrue (has_map t) → tables_read (table_text (map_of t)) ≡ Ok (rows_of_map (map_of t)) }
+{}
+
+/// The rows of a map describe the same map as the tables that it came from, are in range where these are, and are
+/// consistent exactly where these are; consistent tables have a map.
+pub fn rows_keep_the_map()
+    ensures same { (t : Rows) → IsTrue (has_map t) → Same (rows_of_map (map_of t)) t }
+    ensures in_range { (t : Rows) → IsTrue (is_in_range t) → IsTrue (has_map t) → IsTrue (is_in_range (rows_of_map (map_of t))) }
+    ensures consistent { (t : Rows) → IsTrue (has_map t) → is_consistent (rows_of_map (map_of t)) ≡ is_consistent t }
+    ensures has_map { (t : Rows) → IsTrue (is_consistent t) → IsTrue (has_map t) }
+{}
