@@ -1,1 +1,4 @@
 pub mod Plain
+pub mod RowsRead
+pub mod Spelled
+

@@ -46,7 +46,7 @@ signed-plain n h = rw (any_decimal (suc n) h) refl
 abbrev pub is_line : List (List ℕ) → Bool
 is_line fields = list_all is_plain fields && not (is_blank default_writer fields)
 
-plain_text : (x : List ℕ) → is_plain x ≡ true → field_text default_writer x ≡ x
+pub plain_text : (x : List ℕ) → is_plain x ≡ true → field_text default_writer x ≡ x
 plain_text x h = let none : list_any (needs_byte default_writer) x ≡ false = not-true _ h in rw none refl
 
 joined : (x : List ℕ) (rest : List (List ℕ)) → list_all is_plain rest ≡ true → join_with_byte 44 (x ∷ rest) ≡ x ++ fields_text default_writer rest

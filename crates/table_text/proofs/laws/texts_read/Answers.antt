@@ -1,4 +1,5 @@
-use Rattle.table_text.proofs.Plain.{records_of_lines}
+use Rattle.table_text.proofs.RowsRead.{rows_of_text}
+use Rattle.table_text.proofs.Spelled.{node_written, edge_written, face_written, region_written, member_written}
 use Rattle.table_text.proofs.laws.texts_read.Goals as goal
 
 pub returns-clause-nodes : goal.returns-clause-nodes
