@@ -1,4 +1,5 @@
 pub mod Plain
 pub mod RowsRead
 pub mod Spelled
-
+pub mod Rebuilt
+pub mod RowsBack
