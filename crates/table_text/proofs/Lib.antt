@@ -3,3 +3,4 @@ pub mod RowsRead
 pub mod Spelled
 pub mod Rebuilt
 pub mod RowsBack
+pub mod WholeTexts
