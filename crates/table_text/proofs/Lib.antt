@@ -4,3 +4,4 @@ pub mod Spelled
 pub mod Rebuilt
 pub mod RowsBack
 pub mod WholeTexts
+pub mod ReadBack

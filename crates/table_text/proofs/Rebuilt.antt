@@ -1,13 +1,14 @@
 -- Rows that are made again from what stands at their keys: of each key one, rising by key.
-use Rattle.std.proofs.Common.{◌≡◌, ℕ, zero, suc, ◌+◌, ◌<◌, ◌≤◌, inl, inr, Bool, true, false, not, ◌&&◌, ◌||◌, ◌==◌, if◌then◌else◌, List, [], ◌∷◌, map, filter, length, Option, Some, None, refl, sym, ap, ◌∙◌, arith, eq-eqb}
-use Rattle.std.specs.Prelude.{nat_lt, find, slice_get, option_map}
+use Rattle.std.proofs.Common.{◌≡◌, ℕ, zero, suc, ◌+◌, ◌<◌, ◌≤◌, inl, inr, Bool, true, false, not, ◌&&◌, ◌||◌, ◌==◌, if◌then◌else◌, List, [], ◌∷◌, map, filter, length, Option, Some, None, refl, sym, ap, ◌∙◌, subst, arith, eq-eqb}
+use Rattle.std.specs.Prelude.{IsPermutation, nat_lt, find, slice_get, option_map}
 use Rattle.std.specs.List.{list_all}
 use Rattle.std.proofs.lemmas.Bool.{and_parts, and_from, cases_Bool, eqb-true, eqb-false, ne_eqb, ltb-true, false_from_ne_true}
 use Rattle.std.proofs.lemmas.List.{length-map}
 use Rattle.std.proofs.lemmas.List.Folds.{list_all-map}
-use Rattle.std.proofs.lemmas.List.Sorted.{IsPermutation-refl, length_permutation}
+use Rattle.std.proofs.lemmas.List.Sorted.{IsPermutation-refl, IsPermutation-map, length_permutation}
 use Rattle.plane_model.specs.Sets.{FiniteMap, map_by, has, is_distinct, rising}
 use Rattle.plane_model.specs.Orders.{is_strictly_rising}
+use Rattle.table_text.specs.RowsOfMap.{AreSorted}
 use Rattle.plane_model.proofs.Sorting.{rising-all, rising-has, rising-permutation, rising_rises, rising_strictly, is_rising_of, among}
 
 pub rising_twice : (xs : List ℕ) → rising (rising xs) ≡ rising xs
@@ -118,3 +119,10 @@ module _ {R : Type 0} (key : R → ℕ) (back : ℕ → R) (rows : List R) (h : 
   -- and they make the same map
   pub same_map_by : {X : Type 0} (value : R → X) → map_by key value (map back (rising (map key rows))) ≡ map_by key value rows
   same_map_by value = λ i. record { keys = same_keys i; at = λ x. option_map value (same_found x i) }
+
+  pub sorted_again : is_distinct (map key rows) ≡ true → AreSorted key rows (map back (rising (map key rows)))
+  sorted_again apart =
+      record {
+        permutation = subst (λ rs. IsPermutation rs (map back (rising (map key rows)))) (rows_back key back rows h) (IsPermutation-map back (map key rows) (rising (map key rows)) (rising-permutation (map key rows)));
+        rising = ap is_strictly_rising keys_again ∙ rising_strictly (map key rows) apart;
+      }

@@ -1,10 +1,11 @@
 -- The rows of a map describe the map, are in range where its tables are, and consistent exactly where these are.
-use Rattle.std.proofs.Common.{◌≡◌, ℕ, ◌+◌, ◌<◌, ◌≤◌, pos, Bool, true, false, not, ◌&&◌, ◌==◌, List, [], ◌∷◌, map, filter, length, Option, Some, None, refl, sym, ap, ◌∙◌, arith}
-use Rattle.std.specs.Prelude.{nat_le, find, slice_get, option_map, option_and_then, unwrap_or}
+use Rattle.std.proofs.Common.{◌≡◌, ℕ, ◌+◌, ◌<◌, ◌≤◌, pos, Bool, true, false, not, ◌&&◌, ◌==◌, List, [], ◌∷◌, map, filter, length, Option, Some, None, refl, sym, ap, ◌∙◌, subst, inl, inr, arith}
+use Rattle.std.specs.Prelude.{IsPermutation, nat_le, find, slice_get, option_map, option_and_then, unwrap_or}
 use Rattle.std.specs.List.{list_all}
-use Rattle.std.proofs.lemmas.Bool.{and_parts, and_from, leb-true, le-leb}
+use Rattle.std.proofs.lemmas.Bool.{and_parts, and_from, cases_Bool, leb-true, le-leb}
 use Rattle.std.proofs.lemmas.List.{length-map}
 use Rattle.std.proofs.lemmas.List.Folds.{list_all-map}
+use Rattle.std.proofs.lemmas.List.Sorted.{IsPermutation-map}
 use Rattle.orbits.proofs.Numbers.{same_numbers}
 use Rattle.orbits.proofs.Lists.{apart_kept}
 use Rattle.topo_base.specs.declared.refusal.Table.TheVariants as table
@@ -21,12 +22,13 @@ use Rattle.plane_model.specs.Regions.{parents, is_region, is_region_or_none, is_
 use Rattle.plane_model.specs.Component.{is_plane}
 use Rattle.plane_model.specs.Faces.{is_labelled, is_placed}
 use Rattle.plane_model.specs.Consistent.{is_consistent}
+use Rattle.plane_model.specs.Orders.{is_strictly_rising}
 use Rattle.plane_model.specs.InRange.{is_in_range, is_id, is_face_id, is_none_or, is_edge_in_range}
 use Rattle.plane_model.specs.Reading.{most_rows}
 use Rattle.plane_model.proofs.Lookups.{find_key, row_of-forward}
-use Rattle.plane_model.proofs.Sorting.{rising-all}
-use Rattle.table_text.specs.RowsOfMap.{node_of, edge_of, face_of, region_of, member_of, rows_of_map}
-use Rattle.table_text.proofs.Rebuilt.{IsBack, rising_twice, rising_apart, length-rising, filter_all, all_filtered, all_pass, fewer_filtered, same_all, apart_again, as_many, same_map_by}
+use Rattle.plane_model.proofs.Sorting.{rising-all, rising-permutation, rising_strictly}
+use Rattle.table_text.specs.RowsOfMap.{node_of, edge_of, face_of, region_of, member_of, rows_of_map, AreSorted}
+use Rattle.table_text.proofs.Rebuilt.{IsBack, rising_twice, rising_apart, length-rising, filter_all, all_filtered, all_pass, fewer_filtered, same_all, apart_again, as_many, same_map_by, sorted_again}
 
 -- in each table no key stands twice
 pub record AreDistinct (t : Rows) : Type 0 where
@@ -100,6 +102,33 @@ distinct_again t d =
 
 pub rows_same : (t : Rows) → has_map t ≡ true → Same (rows_of_map (map_of t)) t
 rows_same t h = let d = distinct_parts t h in (distinct_whole (rows_of_map (map_of t)) (distinct_again t d), h, same_map t d)
+
+pub nodes_sorted : (t : Rows) → AreDistinct t → AreSorted (λ r. r.id) t.nodes (rows_of_map (map_of t)).nodes
+nodes_sorted t d = sorted_again (λ (r : NodeRow). r.id) (node_of (map_of t)) t.nodes (nodes_back t d) d.nodes
+
+pub edges_sorted : (t : Rows) → AreDistinct t → AreSorted (λ r. r.id) t.edges (rows_of_map (map_of t)).edges
+edges_sorted t d = sorted_again (λ (r : EdgeRow). r.id) (edge_of (map_of t)) t.edges (edges_back t d) d.edges
+
+pub regions_sorted : (t : Rows) → AreDistinct t → AreSorted (λ r. r.id) t.regions (rows_of_map (map_of t)).regions
+regions_sorted t d = sorted_again (λ (r : RegionRow). r.id) (region_of (map_of t)) t.regions (regions_back t d) d.regions
+
+pub members_sorted : (t : Rows) → AreDistinct t → AreSorted (λ r. r.face) t.members (rows_of_map (map_of t)).members
+members_sorted t d = sorted_again (λ (r : MemberRow). r.face) (member_of (map_of t)) t.members (members_back t d) d.members
+
+-- the rows of faces other than 0, by their ids
+other_faces : (faces : List FaceRow) → map face_of (filter is_other (map (λ (r : FaceRow). r.id) faces)) ≡ filter (λ (r : FaceRow). is_other r.id) faces
+other_faces [] = refl
+other_faces (f ∷ faces) = elim (cases_Bool (is_other f.id)) [ inl e ↦ rw e (ap (λ rest. f ∷ rest) (other_faces faces)) | inr e ↦ rw e (other_faces faces) ]
+
+pub faces_sorted : (t : Rows) → AreDistinct t → AreSorted (λ r. r.id) (filter (λ r. not (r.id == 0)) t.faces) (rows_of_map (map_of t)).faces
+unfolding is_other
+faces_sorted t d =
+    let ids : List ℕ = map (λ (r : FaceRow). r.id) t.faces in
+    record {
+      permutation = subst (λ rs. IsPermutation rs (map face_of (rising (filter is_other ids)))) (other_faces t.faces)
+      (IsPermutation-map face_of (filter is_other ids) (rising (filter is_other ids)) (rising-permutation (filter is_other ids)));
+      rising = ap is_strictly_rising (face_ids (rising (filter is_other ids))) ∙ rising_strictly (filter is_other ids) (apart_kept same_numbers is_other ids d.faces);
+    }
 
 -- numbers in range, and few enough rows
 pub record AreWithin (t : Rows) : Type 0 where

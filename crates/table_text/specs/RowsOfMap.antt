@@ -1,5 +1,5 @@
 -- The rows of a map's tables, rising by id, members by face: what the text of each table says, line by line.
-use Rattle.std.specs.Prelude.{ℕ, pos, map, unwrap_or, List}
+use Rattle.std.specs.Prelude.{ℕ, pos, map, unwrap_or, List, IsTrue, IsPermutation}
 use Rattle.plane_model.specs.declared.rows.NodeRow.{NodeRow}
 use Rattle.plane_model.specs.declared.rows.EdgeRow.{EdgeRow}
 use Rattle.plane_model.specs.declared.rows.FaceRow.{FaceRow}
@@ -9,6 +9,7 @@ use Rattle.plane_model.specs.Rows.{Rows}
 use Rattle.plane_model.specs.PlaneMap.{PlaneMap, row_of}
 use Rattle.plane_model.specs.Rotation.{node_face}
 use Rattle.plane_model.specs.Regions.{parent}
+use Rattle.plane_model.specs.Orders.{is_strictly_rising}
 
 abbrev pub node_of : PlaneMap → ℕ → NodeRow
 node_of m n = record { id = n; face = node_face m n }
@@ -35,3 +36,8 @@ rows_of_map m =
       regions = map (region_of m) m.regions.keys;
       members = map (member_of m) m.members.keys;
     }
+
+-- the same rows in rising order of a key, of which none stands twice
+pub record AreSorted {R : Type 0} (key : R → ℕ) (rows sorted : List R) : Type 0 where
+  pub permutation : IsPermutation rows sorted
+  pub rising : IsTrue (is_strictly_rising (map key sorted))

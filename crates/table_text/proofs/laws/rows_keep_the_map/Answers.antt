@@ -1,4 +1,5 @@
 use Rattle.table_text.proofs.RowsBack.{rows_same, in_range_again, consistent_again, consistent_distinct}
+use Rattle.table_text.proofs.ReadBack.{rows_accepted}
 use Rattle.table_text.proofs.laws.rows_keep_the_map.Goals as goal
 
 pub returns-clause-same : goal.returns-clause-same
@@ -12,3 +13,6 @@ returns-clause-consistent c = λ t h. consistent_again t h
 
 pub returns-clause-has_map : goal.returns-clause-has_map
 returns-clause-has_map c = λ t h. consistent_distinct t h
+
+pub returns-clause-accepted : goal.returns-clause-accepted
+returns-clause-accepted c = λ t range k. rows_accepted t range k
