@@ -1,5 +1,5 @@
 -- What was read of the texts of a map describes the map, and the texts tell the map.
-use Rattle.std.proofs.Common.{◌≡◌, true, List, sym, ap, ◌∙◌, subst, None}
+use Rattle.std.proofs.Common.{◌≡◌, true, sym, ap, ◌∙◌, subst, None}
 use Rattle.std.specs.Prelude.{Result, Ok}
 use Rattle.topo_base.specs.declared.refusal.Table.{Table}
 use Rattle.topo_base.specs.declared.refusal.Refusal.{Refusal}

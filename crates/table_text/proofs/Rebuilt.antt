@@ -1,12 +1,12 @@
 -- Rows that are made again from what stands at their keys: of each key one, rising by key.
-use Rattle.std.proofs.Common.{◌≡◌, ℕ, zero, suc, ◌+◌, ◌<◌, ◌≤◌, inl, inr, Bool, true, false, not, ◌&&◌, ◌||◌, ◌==◌, if◌then◌else◌, List, [], ◌∷◌, map, filter, length, Option, Some, None, refl, sym, ap, ◌∙◌, subst, arith, eq-eqb}
+use Rattle.std.proofs.Common.{◌≡◌, ℕ, suc, ◌≤◌, inl, inr, Bool, true, false, ◌==◌, if◌then◌else◌, List, [], ◌∷◌, map, filter, length, Some, None, refl, sym, ap, ◌∙◌, subst, arith, eq-eqb}
 use Rattle.std.specs.Prelude.{IsPermutation, nat_lt, find, slice_get, option_map}
 use Rattle.std.specs.List.{list_all}
 use Rattle.std.proofs.lemmas.Bool.{and_parts, and_from, cases_Bool, eqb-true, eqb-false, ne_eqb, ltb-true, false_from_ne_true}
 use Rattle.std.proofs.lemmas.List.{length-map}
 use Rattle.std.proofs.lemmas.List.Folds.{list_all-map}
 use Rattle.std.proofs.lemmas.List.Sorted.{IsPermutation-refl, IsPermutation-map, length_permutation}
-use Rattle.plane_model.specs.Sets.{FiniteMap, map_by, has, is_distinct, rising}
+use Rattle.plane_model.specs.Sets.{map_by, has, is_distinct, rising}
 use Rattle.plane_model.specs.Orders.{is_strictly_rising}
 use Rattle.table_text.specs.RowsOfMap.{AreSorted}
 use Rattle.plane_model.proofs.Sorting.{rising-all, rising-has, rising-permutation, rising_rises, rising_strictly, is_rising_of, among}

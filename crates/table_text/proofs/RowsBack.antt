@@ -1,6 +1,6 @@
 -- The rows of a map describe the map, are in range where its tables are, and consistent exactly where these are.
-use Rattle.std.proofs.Common.{◌≡◌, ℕ, ◌+◌, ◌<◌, ◌≤◌, pos, Bool, true, false, not, ◌&&◌, ◌==◌, List, [], ◌∷◌, map, filter, length, Option, Some, None, refl, sym, ap, ◌∙◌, subst, inl, inr, arith}
-use Rattle.std.specs.Prelude.{IsPermutation, nat_le, find, slice_get, option_map, option_and_then, unwrap_or}
+use Rattle.std.proofs.Common.{◌≡◌, ℕ, ◌≤◌, Bool, true, false, not, ◌&&◌, ◌==◌, List, [], ◌∷◌, map, filter, length, refl, sym, ap, ◌∙◌, subst, inl, inr, arith}
+use Rattle.std.specs.Prelude.{IsPermutation, nat_le}
 use Rattle.std.specs.List.{list_all}
 use Rattle.std.proofs.lemmas.Bool.{and_parts, and_from, cases_Bool, leb-true, le-leb}
 use Rattle.std.proofs.lemmas.List.{length-map}
@@ -126,7 +126,7 @@ faces_sorted t d =
     let ids : List ℕ = map (λ (r : FaceRow). r.id) t.faces in
     record {
       permutation = subst (λ rs. IsPermutation rs (map face_of (rising (filter is_other ids)))) (other_faces t.faces)
-      (IsPermutation-map face_of (filter is_other ids) (rising (filter is_other ids)) (rising-permutation (filter is_other ids)));
+          (IsPermutation-map face_of (filter is_other ids) (rising (filter is_other ids)) (rising-permutation (filter is_other ids)));
       rising = ap is_strictly_rising (face_ids (rising (filter is_other ids))) ∙ rising_strictly (filter is_other ids) (apart_kept same_numbers is_other ids d.faces);
     }
 

@@ -1,9 +1,8 @@
 -- The rows that a header and lines of fields read as.
-use Rattle.std.proofs.Common.{◌≡◌, ℕ, suc, ◌+◌, ◌<◌, ◌≤◌, Bool, true, false, ◌&&◌, ◌==◌, List, [], ◌∷◌, ◌++◌, map, length, None, refl, sym, ap, ◌∙◌, arith, eq-eqb}
-use Rattle.std.specs.Prelude.{nat_lt, flat_map, Result, Ok, Err}
+use Rattle.std.proofs.Common.{◌≡◌, ℕ, ◌+◌, ◌≤◌, Bool, true, false, List, [], ◌∷◌, ◌++◌, map, length, None, refl, ap, ◌∙◌, arith, eq-eqb}
+use Rattle.std.specs.Prelude.{nat_lt, flat_map, Result, Ok}
 use Rattle.std.specs.List.{list_all}
 use Rattle.std.proofs.lemmas.Bool.{and_parts, and_from, le-ltb}
-use Rattle.std.proofs.lemmas.List.Folds.{list_all-map}
 use Rattle.csv.specs.Reading.{records, default_config, strip_bom}
 use Rattle.topo_base.specs.declared.refusal.Table.{Table}
 use Rattle.topo_base.specs.declared.refusal.Refusal.{Refusal}
@@ -28,7 +27,7 @@ one_row t read fields r n w few =
     rw (within, eq-eqb (length fields) (length (header_of t)) w.whole) (w.reads n)
 
 module _ {R : Type 0} (t : Table) (read : Line → Result R Refusal) (fields : R → List (List ℕ)) (ok : R → Bool)
-  (written : (r : R) → ok r ≡ true → IsWritten t read (fields r) r) where
+    (written : (r : R) → ok r ≡ true → IsWritten t read (fields r) r) where
   all_rows : (n : ℕ) (rs : List R) → list_all ok rs ≡ true → n + length rs ≤ most_rows t + 1 → rows_from t read (header_of t) n (map fields rs) ≡ Ok rs
   unfolding rows_from
   all_rows n [] all few = refl

@@ -1,8 +1,7 @@
 -- The fields of each row, which read as the row again.
-use Rattle.std.proofs.Common.{◌≡◌, ℕ, suc, ◌+◌, ◌<◌, ◌≤◌, ◌^◌, Bool, true, false, ◌&&◌, ◌==◌, List, [], ◌∷◌, map, length, Option, Some, None, refl, sym, ap, ◌∙◌, arith, eq-eqb, decimal}
-use Rattle.std.specs.Prelude.{ℤ, pos, negsuc, nat_le, Result, Ok, Err}
+use Rattle.std.proofs.Common.{◌≡◌, ℕ, suc, ◌<◌, ◌≤◌, ◌^◌, Bool, true, false, ◌&&◌, ◌==◌, List, [], ◌∷◌, length, Option, Some, None, refl, ap, ◌∙◌, arith, decimal}
+use Rattle.std.specs.Prelude.{ℤ, pos, negsuc, nat_le, Ok}
 use Rattle.std.specs.Fmt.{signed_decimal}
-use Rattle.std.specs.List.{list_all}
 use Rattle.std.proofs.lemmas.Bool.{and_parts, and_from, leb-true, ne_eqb}
 use Rattle.std.proofs.lemmas.Fmt.{decimal_nonempty}
 use Rattle.csv.specs.Writing.{default_writer, is_blank}
@@ -13,7 +12,6 @@ use Rattle.topo_base.specs.declared.refusal.Table.{Table}
 use Rattle.topo_base.specs.declared.refusal.Table.TheVariants as table
 use Rattle.topo_base.specs.declared.refusal.Column.{Column}
 use Rattle.topo_base.specs.declared.refusal.Column.TheVariants as column
-use Rattle.topo_base.specs.declared.refusal.Refusal.{Refusal}
 use Rattle.topo_base.proofs.Spelled.{id_reads, positive_reads, signed_reads}
 use Rattle.plane_model.specs.declared.rows.NodeRow.{NodeRow}
 use Rattle.plane_model.specs.declared.rows.EdgeRow.{EdgeRow}
@@ -98,10 +96,10 @@ node_written r h =
       line = and_from _ _ (and_from _ _ id.plain (and_from _ _ (empty_or_plain is_face_id id_number face_spells r.face parts.1) refl)) refl;
       whole = refl;
       reads = λ n.
-        let l : Line = record { header = header_of table.Node; row = n; fields = node_fields r } in
-        let a : required positive_number table.Node l column.NodeId ≡ Ok r.id = required_reads positive_number table.Node l column.NodeId (decimal r.id) r.id refl id in
-        let b : optional id_number table.Node l column.ContainingFace ≡ Ok r.face = optional_reads id_number is_face_id face_spells table.Node l column.ContainingFace r.face refl parts.1 in
-        rw (a, b) refl;
+          let l : Line = record { header = header_of table.Node; row = n; fields = node_fields r } in
+          let a : required positive_number table.Node l column.NodeId ≡ Ok r.id = required_reads positive_number table.Node l column.NodeId (decimal r.id) r.id refl id in
+          let b : optional id_number table.Node l column.ContainingFace ≡ Ok r.face = optional_reads id_number is_face_id face_spells table.Node l column.ContainingFace r.face refl parts.1 in
+          rw (a, b) refl;
     }
 
 pub edge_written : (r : EdgeRow) → is_edge_in_range r ≡ true → IsWritten table.Edge edge_row (edge_fields r) r
@@ -122,20 +120,20 @@ edge_written r h =
     let right_face = face_spells r.right_face six.1 in
     record {
       line =
-      and_from _ _
-      (and_from _ _ id.plain (and_from _ _ start.plain (and_from _ _ end.plain (and_from _ _ next_left.plain (and_from _ _ next_right.plain (and_from _ _ left_face.plain (and_from _ _ right_face.plain refl)))))))
-      refl;
+          and_from _ _
+          (and_from _ _ id.plain (and_from _ _ start.plain (and_from _ _ end.plain (and_from _ _ next_left.plain (and_from _ _ next_right.plain (and_from _ _ left_face.plain (and_from _ _ right_face.plain refl)))))))
+          refl;
       whole = refl;
       reads = λ n.
-        let l : Line = record { header = header_of table.Edge; row = n; fields = edge_fields r } in
-        let a : required positive_number table.Edge l column.EdgeId ≡ Ok r.id = required_reads positive_number table.Edge l column.EdgeId (decimal r.id) r.id refl id in
-        let b : required positive_number table.Edge l column.StartNode ≡ Ok r.start = required_reads positive_number table.Edge l column.StartNode (decimal r.start) r.start refl start in
-        let c : required positive_number table.Edge l column.EndNode ≡ Ok r.end = required_reads positive_number table.Edge l column.EndNode (decimal r.end) r.end refl end in
-        let d : required signed_number table.Edge l column.NextLeftEdge ≡ Ok r.next_left = required_reads signed_number table.Edge l column.NextLeftEdge (signed_decimal r.next_left) r.next_left refl next_left in
-        let e : required signed_number table.Edge l column.NextRightEdge ≡ Ok r.next_right = required_reads signed_number table.Edge l column.NextRightEdge (signed_decimal r.next_right) r.next_right refl next_right in
-        let f : required id_number table.Edge l column.LeftFace ≡ Ok r.left_face = required_reads id_number table.Edge l column.LeftFace (decimal r.left_face) r.left_face refl left_face in
-        let g : required id_number table.Edge l column.RightFace ≡ Ok r.right_face = required_reads id_number table.Edge l column.RightFace (decimal r.right_face) r.right_face refl right_face in
-        rw (a, b, c, d, e, f, g) refl;
+          let l : Line = record { header = header_of table.Edge; row = n; fields = edge_fields r } in
+          let a : required positive_number table.Edge l column.EdgeId ≡ Ok r.id = required_reads positive_number table.Edge l column.EdgeId (decimal r.id) r.id refl id in
+          let b : required positive_number table.Edge l column.StartNode ≡ Ok r.start = required_reads positive_number table.Edge l column.StartNode (decimal r.start) r.start refl start in
+          let c : required positive_number table.Edge l column.EndNode ≡ Ok r.end = required_reads positive_number table.Edge l column.EndNode (decimal r.end) r.end refl end in
+          let d : required signed_number table.Edge l column.NextLeftEdge ≡ Ok r.next_left = required_reads signed_number table.Edge l column.NextLeftEdge (signed_decimal r.next_left) r.next_left refl next_left in
+          let e : required signed_number table.Edge l column.NextRightEdge ≡ Ok r.next_right = required_reads signed_number table.Edge l column.NextRightEdge (signed_decimal r.next_right) r.next_right refl next_right in
+          let f : required id_number table.Edge l column.LeftFace ≡ Ok r.left_face = required_reads id_number table.Edge l column.LeftFace (decimal r.left_face) r.left_face refl left_face in
+          let g : required id_number table.Edge l column.RightFace ≡ Ok r.right_face = required_reads id_number table.Edge l column.RightFace (decimal r.right_face) r.right_face refl right_face in
+          rw (a, b, c, d, e, f, g) refl;
     }
 
 abbrev pub face_fields : FaceRow → List (List ℕ)
@@ -152,9 +150,9 @@ face_written r h =
       line = and_from _ _ (and_from _ _ id.plain refl) (let shown = alone (decimal r.id) id.plain id.some in rw shown refl);
       whole = refl;
       reads = λ n.
-        let l : Line = record { header = header_of table.Face; row = n; fields = face_fields r } in
-        let a : required id_number table.Face l column.FaceId ≡ Ok r.id = required_reads id_number table.Face l column.FaceId (decimal r.id) r.id refl id in
-        rw a refl;
+          let l : Line = record { header = header_of table.Face; row = n; fields = face_fields r } in
+          let a : required id_number table.Face l column.FaceId ≡ Ok r.id = required_reads id_number table.Face l column.FaceId (decimal r.id) r.id refl id in
+          rw a refl;
     }
 
 abbrev pub region_fields : RegionRow → List (List ℕ)
@@ -172,10 +170,10 @@ region_written r h =
       line = and_from _ _ (and_from _ _ id.plain (and_from _ _ (empty_or_plain is_id positive_number id_spells r.parent parts.1) refl)) refl;
       whole = refl;
       reads = λ n.
-        let l : Line = record { header = header_of table.Region; row = n; fields = region_fields r } in
-        let a : required positive_number table.Region l column.RegionId ≡ Ok r.id = required_reads positive_number table.Region l column.RegionId (decimal r.id) r.id refl id in
-        let b : optional positive_number table.Region l column.Parent ≡ Ok r.parent = optional_reads positive_number is_id id_spells table.Region l column.Parent r.parent refl parts.1 in
-        rw (a, b) refl;
+          let l : Line = record { header = header_of table.Region; row = n; fields = region_fields r } in
+          let a : required positive_number table.Region l column.RegionId ≡ Ok r.id = required_reads positive_number table.Region l column.RegionId (decimal r.id) r.id refl id in
+          let b : optional positive_number table.Region l column.Parent ≡ Ok r.parent = optional_reads positive_number is_id id_spells table.Region l column.Parent r.parent refl parts.1 in
+          rw (a, b) refl;
     }
 
 abbrev pub member_fields : MemberRow → List (List ℕ)
@@ -194,8 +192,8 @@ member_written r h =
       line = and_from _ _ (and_from _ _ region.plain (and_from _ _ face.plain refl)) refl;
       whole = refl;
       reads = λ n.
-        let l : Line = record { header = header_of table.Member; row = n; fields = member_fields r } in
-        let a : required positive_number table.Member l column.RegionId ≡ Ok r.region = required_reads positive_number table.Member l column.RegionId (decimal r.region) r.region refl region in
-        let b : required id_number table.Member l column.FaceId ≡ Ok r.face = required_reads id_number table.Member l column.FaceId (decimal r.face) r.face refl face in
-        rw (a, b) refl;
+          let l : Line = record { header = header_of table.Member; row = n; fields = member_fields r } in
+          let a : required positive_number table.Member l column.RegionId ≡ Ok r.region = required_reads positive_number table.Member l column.RegionId (decimal r.region) r.region refl region in
+          let b : required id_number table.Member l column.FaceId ≡ Ok r.face = required_reads id_number table.Member l column.FaceId (decimal r.face) r.face refl face in
+          rw (a, b) refl;
     }

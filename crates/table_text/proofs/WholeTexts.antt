@@ -1,7 +1,6 @@
 -- The text of each table reads as the rows of the map.
-use Rattle.std.proofs.Common.{◌≡◌, ℕ, ◌+◌, ◌≤◌, Bool, true, ◌&&◌, ◌==◌, List, [], ◌∷◌, ◌++◌, map, length, Option, Some, None, refl, sym, ap, ◌∙◌, eq-eqb, decimal}
+use Rattle.std.proofs.Common.{◌≡◌, ℕ, true, List, [], ◌∷◌, ◌++◌, map, Option, Some, None, refl, sym, ap, ◌∙◌, eq-eqb, decimal}
 use Rattle.std.specs.Prelude.{pos, flat_map, is_some, unwrap_or, Result, Ok}
-use Rattle.std.specs.List.{list_all}
 use Rattle.std.proofs.lemmas.Bool.{or_left, or_right}
 use Rattle.csv.specs.Reading.{strip_bom}
 use Rattle.csv.specs.Writing.{is_blank}
@@ -14,11 +13,11 @@ use Rattle.plane_model.specs.declared.rows.RegionRow.{RegionRow}
 use Rattle.plane_model.specs.declared.rows.MemberRow.{MemberRow}
 use Rattle.plane_model.specs.Rows.{Rows}
 use Rattle.plane_model.specs.Sets.{has}
-use Rattle.plane_model.specs.PlaneMap.{PlaneMap, map_of, row_of}
+use Rattle.plane_model.specs.PlaneMap.{map_of, row_of}
 use Rattle.plane_model.specs.Rotation.{node_face}
 use Rattle.plane_model.specs.Regions.{parent}
 use Rattle.plane_model.specs.Reading.{◌>>=◌, node_row, edge_row, face_row, region_row, member_row, node_rows, edge_rows, face_rows, region_rows, member_rows}
-use Rattle.plane_model.specs.Texts.{text_line, number_or_empty, edge_fields, row_fields, table_text}
+use Rattle.plane_model.specs.Texts.{text_line, number_or_empty, edge_fields, table_text}
 use Rattle.plane_model.specs.InRange.{is_edge_in_range}
 use Rattle.plane_model.proofs.FaultParts.{has_key_at}
 use Rattle.table_text.specs.RowsOfMap.{node_of, edge_of, face_of, region_of, member_of, rows_of_map}
