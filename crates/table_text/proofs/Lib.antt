@@ -5,3 +5,4 @@ pub mod Rebuilt
 pub mod RowsBack
 pub mod WholeTexts
 pub mod ReadBack
+pub mod Lengths

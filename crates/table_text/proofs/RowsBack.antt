@@ -208,20 +208,40 @@ face_rows_few faces =
     let d = length-map faces (λ (r : FaceRow). r.id) in
     omega arith
 
+-- as many rows, and no more faces
+pub record RowCounts (t u : Rows) : Type 0 where
+  pub nodes : length u.nodes ≡ length t.nodes
+  pub edges : length u.edges ≡ length t.edges
+  pub faces : length u.faces ≤ length t.faces
+  pub regions : length u.regions ≡ length t.regions
+  pub members : length u.members ≡ length t.members
+
+pub row_counts : (t : Rows) → AreDistinct t → RowCounts t (rows_of_map (map_of t))
+unfolding is_other
+row_counts t d =
+    record {
+      nodes = as_many (λ (r : NodeRow). r.id) (node_of (map_of t)) t.nodes (nodes_back t d);
+      edges = as_many (λ (r : EdgeRow). r.id) (edge_of (map_of t)) t.edges (edges_back t d);
+      faces = face_rows_few t.faces;
+      regions = as_many (λ (r : RegionRow). r.id) (region_of (map_of t)) t.regions (regions_back t d);
+      members = as_many (λ (r : MemberRow). r.face) (member_of (map_of t)) t.members (members_back t d);
+    }
+
 pub within_again : (t : Rows) → AreDistinct t → AreWithin t → AreWithin (rows_of_map (map_of t))
 unfolding is_other
 within_again t d w =
+    let n = row_counts t d in
     record {
       nodes = same_all (λ (r : NodeRow). r.id) (node_of (map_of t)) t.nodes (nodes_back t d) (λ r. is_id r.id && is_none_or is_face_id r.face) ∙ w.nodes;
       edges = same_all (λ (r : EdgeRow). r.id) (edge_of (map_of t)) t.edges (edges_back t d) is_edge_in_range ∙ w.edges;
       faces = faces_within t.faces w.faces;
       regions = same_all (λ (r : RegionRow). r.id) (region_of (map_of t)) t.regions (regions_back t d) (λ r. is_id r.id && is_none_or is_id r.parent) ∙ w.regions;
       members = same_all (λ (r : MemberRow). r.face) (member_of (map_of t)) t.members (members_back t d) (λ r. is_id r.region && is_face_id r.face) ∙ w.members;
-      node_count = let n = as_many (λ (r : NodeRow). r.id) (node_of (map_of t)) t.nodes (nodes_back t d) in omega (arith, w.node_count);
-      edge_count = let n = as_many (λ (r : EdgeRow). r.id) (edge_of (map_of t)) t.edges (edges_back t d) in omega (arith, w.edge_count);
-      face_count = let n = face_rows_few t.faces in omega (arith, w.face_count);
-      region_count = let n = as_many (λ (r : RegionRow). r.id) (region_of (map_of t)) t.regions (regions_back t d) in omega (arith, w.region_count);
-      member_count = let n = as_many (λ (r : MemberRow). r.face) (member_of (map_of t)) t.members (members_back t d) in omega (arith, w.member_count);
+      node_count = omega (arith, n.nodes, w.node_count);
+      edge_count = omega (arith, n.edges, w.edge_count);
+      face_count = omega (arith, n.faces, w.face_count);
+      region_count = omega (arith, n.regions, w.region_count);
+      member_count = omega (arith, n.members, w.member_count);
     }
 
 pub in_range_again : (t : Rows) → is_in_range t ≡ true → has_map t ≡ true → is_in_range (rows_of_map (map_of t)) ≡ true

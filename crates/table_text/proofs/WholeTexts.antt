@@ -13,7 +13,7 @@ use Rattle.plane_model.specs.declared.rows.RegionRow.{RegionRow}
 use Rattle.plane_model.specs.declared.rows.MemberRow.{MemberRow}
 use Rattle.plane_model.specs.Rows.{Rows}
 use Rattle.plane_model.specs.Sets.{has}
-use Rattle.plane_model.specs.PlaneMap.{map_of, row_of}
+use Rattle.plane_model.specs.PlaneMap.{PlaneMap, map_of, row_of}
 use Rattle.plane_model.specs.Rotation.{node_face}
 use Rattle.plane_model.specs.Regions.{parent}
 use Rattle.plane_model.specs.Reading.{◌>>=◌, node_row, edge_row, face_row, region_row, member_row, node_rows, edge_rows, face_rows, region_rows, member_rows}
@@ -38,47 +38,64 @@ some_text : (o : Option ℕ) → is_some o ≡ true → number_or_empty o ≡ de
 some_text None h = cc
 some_text (Some n) h = refl
 
+-- the text of a table is a header and the fields of the rows of the map
+pub node_text : (m : PlaneMap) → table_text m table.Node ≡ text_line (header_of table.Node) ++ flat_map text_line (map node_fields (rows_of_map m).nodes)
+node_text m =
+    ap (λ lines. text_line (header_of table.Node) ++ flat_map text_line lines)
+    (fused node_fields (node_of m) (λ n. decimal n ∷ number_or_empty (node_face m n) ∷ []) m.nodes.keys (λ k there. refl))
+
+pub edge_text : (m : PlaneMap) → table_text m table.Edge ≡ text_line (header_of table.Edge) ++ flat_map text_line (map edge_fields (rows_of_map m).edges)
+edge_text m =
+    ap (λ lines. text_line (header_of table.Edge) ++ flat_map text_line lines)
+    (fused edge_fields (edge_of m) (λ e. edge_fields (row_of m (pos e))) m.edges.keys (λ k there. refl))
+
+pub face_text : (m : PlaneMap) → table_text m table.Face ≡ text_line (header_of table.Face) ++ flat_map text_line (map face_fields (rows_of_map m).faces)
+face_text m = ap (λ lines. text_line (header_of table.Face) ++ flat_map text_line lines) (fused face_fields face_of (λ f. decimal f ∷ []) m.faces (λ k there. refl))
+
+pub region_text : (m : PlaneMap) → table_text m table.Region ≡ text_line (header_of table.Region) ++ flat_map text_line (map region_fields (rows_of_map m).regions)
+region_text m =
+    ap (λ lines. text_line (header_of table.Region) ++ flat_map text_line lines)
+    (fused region_fields (region_of m) (λ r. decimal r ∷ number_or_empty (parent m r) ∷ []) m.regions.keys (λ k there. refl))
+
+-- each face of a member has a region
+pub member_text : (t : Rows) → table_text (map_of t) table.Member ≡ text_line (header_of table.Member) ++ flat_map text_line (map member_fields (rows_of_map (map_of t)).members)
+member_text t =
+    let m = map_of t in
+    let held : (f : ℕ) → has m.members.keys f ≡ true → is_some (m.members.at f) ≡ true = λ f there. sym (has_key_at (λ (r : MemberRow). r.face) (λ (r : MemberRow). r.region) t.members f) ∙ there in
+    ap (λ lines. text_line (header_of table.Member) ++ flat_map text_line lines)
+    (fused member_fields (member_of m) (λ f. number_or_empty (m.members.at f) ∷ decimal f ∷ []) m.members.keys
+    (λ k there. ap (λ text. text ∷ decimal k ∷ []) (some_text (m.members.at k) (held k there))))
+
 module _ (t : Rows) (d : AreDistinct t) (w : AreWithin t) where
   pub nodes_read : node_rows (table_text (map_of t) table.Node) ≡ Ok (rows_of_map (map_of t)).nodes
   unfolding is_blank strip_bom
   nodes_read =
-      let m = map_of t in
       let within = within_again t d w in
-      ap (λ lines. node_rows (text_line (header_of table.Node) ++ flat_map text_line lines)) (fused node_fields (node_of m) (λ n. decimal n ∷ number_or_empty (node_face m n) ∷ []) m.nodes.keys (λ k there. refl))
-      ∙ rows_of_text table.Node node_row node_fields is_node node_written (rows_of_map m).nodes within.nodes within.node_count refl refl refl
+      ap node_rows (node_text (map_of t)) ∙ rows_of_text table.Node node_row node_fields is_node node_written (rows_of_map (map_of t)).nodes within.nodes within.node_count refl refl refl
 
   pub edges_read : edge_rows (table_text (map_of t) table.Edge) ≡ Ok (rows_of_map (map_of t)).edges
   unfolding is_blank strip_bom
   edges_read =
-      let m = map_of t in
       let within = within_again t d w in
-      ap (λ lines. edge_rows (text_line (header_of table.Edge) ++ flat_map text_line lines)) (fused edge_fields (edge_of m) (λ e. edge_fields (row_of m (pos e))) m.edges.keys (λ k there. refl))
-      ∙ rows_of_text table.Edge edge_row edge_fields is_edge_in_range edge_written (rows_of_map m).edges within.edges within.edge_count refl refl refl
+      ap edge_rows (edge_text (map_of t)) ∙ rows_of_text table.Edge edge_row edge_fields is_edge_in_range edge_written (rows_of_map (map_of t)).edges within.edges within.edge_count refl refl refl
 
   pub faces_read : face_rows (table_text (map_of t) table.Face) ≡ Ok (rows_of_map (map_of t)).faces
   unfolding is_blank strip_bom
   faces_read =
-      let m = map_of t in
       let within = within_again t d w in
-      ap (λ lines. face_rows (text_line (header_of table.Face) ++ flat_map text_line lines)) (fused face_fields face_of (λ f. decimal f ∷ []) m.faces (λ k there. refl))
-      ∙ rows_of_text table.Face face_row face_fields is_face_row face_written (rows_of_map m).faces within.faces within.face_count refl refl refl
+      ap face_rows (face_text (map_of t)) ∙ rows_of_text table.Face face_row face_fields is_face_row face_written (rows_of_map (map_of t)).faces within.faces within.face_count refl refl refl
 
   pub regions_read : region_rows (table_text (map_of t) table.Region) ≡ Ok (rows_of_map (map_of t)).regions
   unfolding is_blank strip_bom
   regions_read =
-      let m = map_of t in
       let within = within_again t d w in
-      ap (λ lines. region_rows (text_line (header_of table.Region) ++ flat_map text_line lines)) (fused region_fields (region_of m) (λ r. decimal r ∷ number_or_empty (parent m r) ∷ []) m.regions.keys (λ k there. refl))
-      ∙ rows_of_text table.Region region_row region_fields is_region_row region_written (rows_of_map m).regions within.regions within.region_count refl refl refl
+      ap region_rows (region_text (map_of t)) ∙ rows_of_text table.Region region_row region_fields is_region_row region_written (rows_of_map (map_of t)).regions within.regions within.region_count refl refl refl
 
   pub members_read : member_rows (table_text (map_of t) table.Member) ≡ Ok (rows_of_map (map_of t)).members
   unfolding is_blank strip_bom
   members_read =
-      let m = map_of t in
       let within = within_again t d w in
-      ap (λ lines. member_rows (text_line (header_of table.Member) ++ flat_map text_line lines)) (fused member_fields (member_of m) (λ f. number_or_empty (m.members.at f) ∷ decimal f ∷ []) m.members.keys
-      (λ k there. ap (λ text. text ∷ decimal k ∷ []) (some_text (m.members.at k) (sym (has_key_at (λ (r : MemberRow). r.face) (λ (r : MemberRow). r.region) t.members k) ∙ there))))
-      ∙ rows_of_text table.Member member_row member_fields is_member_row member_written (rows_of_map m).members within.members within.member_count refl refl refl
+      ap member_rows (member_text t) ∙ rows_of_text table.Member member_row member_fields is_member_row member_written (rows_of_map (map_of t)).members within.members within.member_count refl refl refl
 
   pub all_read : tables_read (table_text (map_of t)) ≡ Ok (rows_of_map (map_of t))
   all_read =

@@ -1,6 +1,6 @@
 //! Laws of the texts, each the contract of a function that does nothing.
 
-ghost use Rattle.std.specs.Prelude.{◌≡◌, ◌==◌, IsTrue, None, Ok, filter, not};
+ghost use Rattle.std.specs.Prelude.{◌≡◌, ◌==◌, ◌+◌, ◌*◌, ◌≤◌, IsTrue, None, Ok, filter, length, not};
 ghost use Rattle.topo_base.specs.declared.refusal.Table.{Table};
 ghost use Rattle.topo_base.specs.declared.refusal.Table.TheVariants as table;
 ghost use Rattle.plane_model.specs.Rows.{Rows};
@@ -52,4 +52,14 @@ pub fn texts_read_back()
 /// Maps whose five texts are equal are one map.
 pub fn texts_tell_the_map()
     ensures { (t u : Rows) → IsTrue (is_in_range t) → IsTrue (is_in_range u) → IsTrue (has_map t) → IsTrue (has_map u) → ((which : Table) → table_text (map_of t) which ≡ table_text (map_of u) which) → map_of t ≡ map_of u }
+{}
+
+/// A text has its header and at most 20, 40 or 142 bytes a row. So up to 7,561,561 edges each text is within 2^30 bytes.
+pub fn text_lengths()
+    ensures nodes { (t : Rows) → IsTrue (is_in_range t) → IsTrue (has_map t) → length (table_text (map_of t) table.Node) ≤ 24 + 40 * length t.nodes }
+    ensures edges { (t : Rows) → IsTrue (is_in_range t) → IsTrue (has_map t) → length (table_text (map_of t) table.Edge) ≤ 80 + 142 * length t.edges }
+    ensures faces { (t : Rows) → IsTrue (is_in_range t) → IsTrue (has_map t) → length (table_text (map_of t) table.Face) ≤ 8 + 20 * length t.faces }
+    ensures regions { (t : Rows) → IsTrue (is_in_range t) → IsTrue (has_map t) → length (table_text (map_of t) table.Region) ≤ 17 + 40 * length t.regions }
+    ensures members { (t : Rows) → IsTrue (is_in_range t) → IsTrue (has_map t) → length (table_text (map_of t) table.Member) ≤ 18 + 40 * length t.members }
+    ensures all { (t : Rows) (which : Table) → IsTrue (is_in_range t) → IsTrue (has_map t) → length t.edges ≤ 7_561_561 → length (table_text (map_of t) which) ≤ 1_073_741_824 }
 {}
