@@ -1,5 +1,5 @@
 -- How long the texts of a map are at most.
-use Rattle.std.proofs.Common.{◌≡◌, ℕ, suc, ◌+◌, ◌*◌, ◌<◌, ◌≤◌, ◌^◌, Bool, true, ◌&&◌, List, [], ◌∷◌, ◌++◌, map, length, length-append, Option, Some, None, ap, arith, decimal}
+use Rattle.std.proofs.Common.{◌≡◌, ℕ, suc, ◌+◌, ◌*◌, ◌≤◌, Bool, true, ◌&&◌, List, [], ◌∷◌, map, length, length-append, Option, Some, None, ap, arith, decimal}
 use Rattle.std.specs.Prelude.{ℤ, pos, negsuc, nat_le, flat_map}
 use Rattle.std.specs.Fmt.{signed_decimal}
 use Rattle.std.specs.List.{list_all, join_with_byte}
@@ -21,7 +21,7 @@ use Rattle.plane_model.specs.Texts.{text_line, number_or_empty, edge_fields, tab
 use Rattle.table_text.specs.RowsOfMap.{rows_of_map}
 use Rattle.table_text.proofs.RowsRead.{header_of}
 use Rattle.table_text.proofs.Spelled.{node_fields, is_node, face_fields, is_face_row, region_fields, is_region_row, member_fields, is_member_row}
-use Rattle.table_text.proofs.RowsBack.{AreDistinct, AreWithin, within_again, RowCounts, row_counts}
+use Rattle.table_text.proofs.RowsBack.{AreDistinct, AreWithin, within_again, row_counts}
 use Rattle.table_text.proofs.WholeTexts.{node_text, edge_text, face_text, region_text, member_text}
 
 -- each field and what stands behind it
