@@ -1,0 +1,6 @@
+use Rattle.std.proofs.Common.{◌≡◌, ◌≤◌, take}
+use Rattle.pemb_file.specs.Served.{contents_of_view}
+use Rattle.file_parts.proofs.places.isolated_places.Given as goal
+
+abbrev pub invariant-loop-j : goal.invariant-loop-j
+invariant-loop-j g l = record { places : l.places.items ≡ take l.j (contents_of_view l.fn.served).isolated; grows : l.fn.steps ≤ l.steps }
