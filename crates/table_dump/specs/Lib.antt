@@ -1,0 +1,5 @@
+pub mod Places
+pub mod Lines
+pub mod Prices
+pub mod Gathering
+pub mod Dumped

@@ -1,0 +1,98 @@
+//! One table, written under its name.
+
+ghost use Rattle.std.specs.Prelude.{◌≡◌, ◌<◌, ◌≤◌, ◌+◌, ◌*◌, [], length, OnErr, OnOk};
+ghost use Rattle.ports.specs.Outside.{CountsWrite, WhereTold};
+ghost use Rattle.plane_model.specs.Texts.{table_text};
+ghost use Rattle.pemb_file.specs.Served.{contents_of_view};
+ghost use Rattle.navigate.specs.Bound.{served_map};
+ghost use Rattle.table_dump.specs.Lines.{header_line, line_at, row_count};
+ghost use Rattle.table_dump.specs.Prices.{row_price};
+ghost use Rattle.table_dump.specs.Dumped.{Holds, HoldsFront};
+
+use crate::gathered::{Gathered, gather, put_out};
+use crate::line::{Line, edge_line, face_line, member_line, node_line, region_line};
+use crate::rows::{edge_row, face_row, member_row, node_row, region_row};
+use bit_words::Steps;
+use pemb_file::Served;
+use ports::{Failed, Shelf};
+use std::sync::ledger::Ledger;
+use topo_base::Table;
+
+/// The names of a table's columns, as a line.
+fn header(table: Table) -> &'static [u8]
+    ensures header { result.now ≡ header_line table }
+    ensures short { length result.now ≤ 256 }
+{
+    match table {
+        Table::Node => b"node_id,containing_face\n",
+        Table::Edge => {
+            b"edge_id,start_node,end_node,next_left_edge,next_right_edge,left_face,right_face\n"
+        }
+        Table::Face => b"face_id\n",
+        Table::Region => b"region_id,parent\n",
+        Table::Member => b"region_id,face_id\n",
+    }
+}
+
+/// How many places a table has: one for each row, and in the table of members one for each face, face 0 too.
+fn places(served: Served<'_>, table: Table) -> usize
+    ensures count { result ≡ row_count (contents_of_view served.entry) table }
+    ensures few { result ≤ 16777217 }
+{
+    match table {
+        Table::Node => served.nodes().count(),
+        Table::Edge => served.edges().count(),
+        Table::Face => served.faces().count(),
+        Table::Region => served.regions().count(),
+        Table::Member => served.faces().count() + 1,
+    }
+}
+
+/// The line at a place of a table, or nothing where a face is in no region.
+fn line_in<C: Ledger>(served: Served<'_>, table: Table, place: usize, steps: &mut Steps<C>) -> Line
+    requires { place < row_count (contents_of_view served) table }
+    ensures line { result.items ≡ line_at (contents_of_view served.entry) table place }
+    ensures some_steps { steps.old + 1 ≤ steps.new }
+    ensures cost { steps.new ≤ steps.old + row_price (contents_of_view served.entry) table }
+{
+    match table {
+        Table::Node => node_line(node_row(served, place, steps)),
+        Table::Edge => edge_line(edge_row(served, place, steps)),
+        Table::Face => face_line(face_row(served, place, steps)),
+        Table::Region => region_line(region_row(served, place, steps)),
+        Table::Member => match member_row(served, place, steps) {
+            Some(row) => member_line(row),
+            None => Line::new(),
+        },
+    }
+}
+
+/// Writes a table under a name. Nothing may be gathered before, and nothing is left gathered where all is written.
+pub(crate) fn write_table<H: Shelf, C: Ledger>(
+    served: Served<'_>,
+    table: Table,
+    name: &str,
+    shelf: &mut H,
+    text: &mut Gathered,
+    steps: &mut Steps<C>,
+) -> Result<(), Failed>
+    requires { text.old.items ≡ [] }
+    ensures written { OnOk result (WhereTold (Holds name.now (table_text (served_map served.entry) table)) (H.files shelf.old) (H.files shelf.new)) }
+    ensures part { OnErr result (WhereTold (HoldsFront name.now (table_text (served_map served.entry) table)) (H.files shelf.old) (H.files shelf.new)) }
+    ensures counted { CountsWrite result (H.write_faults shelf.old) (H.write_faults shelf.new) }
+    ensures empty { OnOk result (text.new.items ≡ []) }
+    ensures no_fault { H.faults shelf.new ≡ H.faults shelf.old }
+    ensures no_miss { H.misses shelf.new ≡ H.misses shelf.old }
+    ensures least { OnOk result (steps.old + row_count (contents_of_view served.entry) table ≤ steps.new) }
+    ensures grows { steps.old ≤ steps.new }
+    ensures paid { steps.new ≤ steps.old + row_count (contents_of_view served.entry) table * row_price (contents_of_view served.entry) table }
+{
+    shelf.start(name)?;
+    gather(shelf, name, text, header(table))?;
+    let count = places(served, table);
+    for place in 0..count {
+        let line = line_in(served, table, place, steps);
+        gather(shelf, name, text, line.as_slice())?;
+    }
+    put_out(shelf, name, text)
+}
