@@ -47,6 +47,22 @@ def rings(folder, count, length):
     write_tables(folder, ((n, None) for n in range(1, count * length + 1)), edges, range(1, count + 1))
 
 
+def node_by(n):
+    """The nodes of n by n cells, row by row."""
+    return lambda r, c: 1 + r * (n + 1) + c
+
+
+def after_by(leaving, directions):
+    """The next of a signed edge that enters a node in a direction, by what leaves each node clockwise from the north."""
+    def after(r, c, direction):
+        for turn in range(1, directions + 1):
+            edge = leaving(r, c, (direction + directions // 2 + turn) % directions)
+            if edge is not None:
+                return edge
+        raise AssertionError("a node without edges")
+    return after
+
+
 def grid_edges(n):
     """The edges of a grid of n by n cells: east edges first, then north edges."""
     def east(r, c):
@@ -68,18 +84,8 @@ def grid_edges(n):
             return -north(r - 1, c) if r > 0 else None
         return -east(r, c - 1) if c > 0 else None
 
-    def after(r, c, direction):
-        """The next of a signed edge that enters a node in a direction."""
-        back = (direction + 2) % 4
-        for turn in range(1, 5):
-            edge = leaving(r, c, (back + turn) % 4)
-            if edge is not None:
-                return edge
-        raise AssertionError("a node without edges")
-
-    def node(r, c):
-        return 1 + r * (n + 1) + c
-
+    after = after_by(leaving, 4)
+    node = node_by(n)
     for r in range(n + 1):
         for c in range(n):
             yield (east(r, c), node(r, c), node(r, c + 1), after(r, c + 1, 1), after(r, c, 3), cell(r, c), cell(r - 1, c))
@@ -128,17 +134,8 @@ def mesh_edges(n):
             return -across(r - 1, c - 1) if r > 0 and c > 0 else None
         return -east(r, c - 1) if c > 0 else None
 
-    def after(r, c, direction):
-        """The next of a signed edge that enters a node in a direction."""
-        for turn in range(1, 7):
-            edge = leaving(r, c, (direction + 3 + turn) % 6)
-            if edge is not None:
-                return edge
-        raise AssertionError("a node without edges")
-
-    def node(r, c):
-        return 1 + r * (n + 1) + c
-
+    after = after_by(leaving, 6)
+    node = node_by(n)
     for r in range(n + 1):
         for c in range(n):
             yield (east(r, c), node(r, c), node(r, c + 1), after(r, c + 1, 2), after(r, c, 5), below(r, c), above(r - 1, c))
