@@ -1,11 +1,10 @@
 -- Where nothing is wrong, a call is done or wants memory.
-use Rattle.std.proofs.Common.{◌≡◌, Bool, true, false, ℕ, ◌+◌, ◌<◌, ◌≤◌, List, ◌++◌, length, Option, Some, None, Result, Ok, Err, IfSome, IsSome, refl, sym, ap, ◌∙◌, subst, inl, inr, arith, length-append}
+use Rattle.std.proofs.Common.{◌≡◌, Bool, true, false, ℕ, ◌<◌, ◌≤◌, List, length, Option, Some, None, Result, Ok, Err, IfSome, IsSome, refl, sym, ap, ◌∙◌, subst, inl, inr, arith, length-append}
 use Rattle.std.specs.Io.KnownBytes.{Consumes}
 use Rattle.ports.specs.Outside.{Files}
 use Rattle.plane_model.specs.Rows.{Rows}
 use Rattle.topo_cli.specs.declared.status.Status.{Status}
 use Rattle.topo_cli.specs.declared.status.Status.TheVariants as status
-use Rattle.topo_cli.specs.Limits.{most_bytes}
 use Rattle.topo_cli.specs.Words.{Form}
 use Rattle.topo_cli.specs.Call.{Call}
 use Rattle.topo_cli.specs.Tables.{AreTold, Ending, IsNeeded, IsSubject, OnRead}
@@ -22,6 +21,9 @@ of_tables files (Form.Build dir file) t P told is h = of_told files _ t P told i
 of_tables files (Form.Query file) t P told is h = of_told files _ t P told is h
 of_tables files (Form.Check file) t P told is h = of_told files _ t P told is h
 of_tables files (Form.Trial n) t P told is h = subst P is h
+of_tables files (Form.Hops file from to) t P told is h = of_told files _ t P told is h
+of_tables files (Form.Upgrade old new) t P told is h = of_told files _ t P told is h
+of_tables files (Form.Dump file dir) t P told is h = of_told files _ t P told is h
 
 at_tables : (c : Call) (P : Form → Result Rows Ending → Type 0) (fine : IsFine c) → OnSubject c P → P fine.asked (Ok fine.tables)
 at_tables c P fine on =
@@ -56,6 +58,9 @@ script_too_long c (Form.Build dir file) fine reads long = reads
 script_too_long c (Form.Query file) fine reads long = long_script c fine long
 script_too_long c (Form.Check file) fine reads long = reads
 script_too_long c (Form.Trial n) fine reads long = reads
+script_too_long c (Form.Hops file from to) fine reads long = reads
+script_too_long c (Form.Upgrade old new) fine reads long = reads
+script_too_long c (Form.Dump file dir) fine reads long = reads
 
 pub complete : (c : Call) (s : Status) → Says c s → IsComplete c s
 complete c status.Done says = λ fine. inl refl

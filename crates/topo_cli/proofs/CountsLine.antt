@@ -1,6 +1,6 @@
 -- The line of a file's counts.
 use Rattle.std.specs.Prelude.{map, flat_map, IfOk}
-use Rattle.std.proofs.Common.{◌≡◌, List, [], ◌∷◌, ◌++◌, ℕ, length, ap, ◌∙◌, sym, refl, Result, Ok, Err}
+use Rattle.std.proofs.Common.{◌≡◌, List, [], ◌∷◌, ◌++◌, ℕ, length, ap, ◌∙◌, sym, Result, Ok, Err}
 use Rattle.topo_base.specs.Script.{Item, item_text}
 use Rattle.plane_model.specs.PlaneMap.{PlaneMap}
 use Rattle.plane_model.specs.Component.{components}

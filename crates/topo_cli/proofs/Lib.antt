@@ -8,3 +8,5 @@ pub mod Built
 pub mod Opened
 pub mod RoundTrip
 pub mod CountsLine
+pub mod HopLine
+pub mod FolderNames

@@ -1,8 +1,8 @@
 -- The map of a file that was opened, and what it cost.
-use Rattle.std.proofs.Common.{◌≡◌, ◌∙◌, ℕ, ◌+◌, ◌*◌, ◌≤◌, List, IsTrue, Option, None, is_none, refl, sym, ap, subst}
+use Rattle.std.proofs.Common.{◌≡◌, ℕ, ◌+◌, ◌*◌, ◌≤◌, List, IsTrue, None, is_none, ap, subst}
 use Rattle.bit_words.specs.Digits.{digits}
-use Rattle.plane_model.specs.PlaneMap.{PlaneMap, map_of}
-use Rattle.plane_model.specs.Consistent.{is_consistent, size}
+use Rattle.plane_model.specs.PlaneMap.{map_of}
+use Rattle.plane_model.specs.Consistent.{size}
 use Rattle.file_laws.specs.Layout.{counts_in, words_of}
 use Rattle.file_laws.specs.Contents.{Contents}
 use Rattle.file_laws.specs.Held.{contents_of}

@@ -1,5 +1,5 @@
 -- A query over what a build left is answered as an ask over the same tables.
-use Rattle.std.proofs.Common.{◌≡◌, ◌∙◌, ℕ, Bool, true, false, List, [], ◌++◌, append-nil, refl, sym, ap, subst, Option, Some, None, Result, Ok, Err, IfSome, IsTrue, length, is_none, inl, inr}
+use Rattle.std.proofs.Common.{◌≡◌, ◌∙◌, ℕ, Bool, true, false, List, [], ◌++◌, append-nil, refl, sym, ap, subst, Option, Some, None, Result, Ok, Err, IfSome, length, is_none, inl, inr}
 use Rattle.std.specs.Prelude.{nat_lt, if◌then◌else◌}
 use Rattle.std.proofs.lemmas.Bool.{cases_Bool}
 use Rattle.std.specs.Io.KnownBytes.{Consumes}
@@ -8,13 +8,12 @@ use Rattle.plane_model.specs.Rows.{Rows}
 use Rattle.plane_model.specs.PlaneMap.{PlaneMap, map_of}
 use Rattle.plane_model.specs.Answers.{answers}
 use Rattle.file_laws.specs.Lawful.{first_fault as file_fault, map_of_file}
-use Rattle.file_laws.specs.declared.fault.FileFault.{FileFault}
 use Rattle.topo_cli.specs.declared.status.Status.TheVariants as status
 use Rattle.topo_cli.specs.Limits.{most_bytes}
 use Rattle.topo_cli.specs.Call.{Call}
 use Rattle.topo_cli.specs.Words.{Form}
-use Rattle.topo_cli.specs.Tables.{Ending, IsSubject, OnRead, opened, opened_by, opened_or_missing, served, unless_unlawful}
-use Rattle.topo_cli.specs.Outcome.{Finished, HoldsImage, IsAnswered, IsPromised, LeavesFiles, LeftByDone, TookOfScript, Wrote}
+use Rattle.topo_cli.specs.Tables.{Ending, IsSubject, opened, opened_by, opened_or_missing, served, unless_unlawful}
+use Rattle.topo_cli.specs.Outcome.{Finished, HoldsImage, IsAnswered, IsPromised, LeavesFiles, LeavesWhole, TookOfScript, Wrote}
 use Rattle.topo_cli.specs.RoundTrip.{IsRoundTrip}
 
 ok_is : {A E : Type 0} (x y : A) → ◌≡◌ {A = Result A E} (Ok x) (Ok y) → x ≡ y
@@ -45,14 +44,14 @@ record Left (files : Files) (dir file : List ℕ) (after : Option Files) : Type 
   served : served files dir ≡ Ok tables
   held : Files
   told : after ≡ Some held
-  holds : HoldsImage tables file files held
+  holds : HoldsImage file tables files held
 
-left_by : (files : Files) (dir file : List ℕ) (b : Call) (read : Result Rows Ending) → served files dir ≡ read → b.shelf.files_before ≡ Some files → LeftByDone b file read → Left files dir file b.shelf.files_after
+left_by : (files : Files) (dir file : List ℕ) (b : Call) (read : Result Rows Ending) → served files dir ≡ read → b.shelf.files_before ≡ Some files → LeavesWhole b (HoldsImage file) read → Left files dir file b.shelf.files_after
 left_by files dir file b (Ok t) is found left =
-    let P : Option Files → Type 0 = λ o. WhereTold (HoldsImage t file) o b.shelf.files_after in
+    let P : Option Files → Type 0 = λ o. WhereTold (HoldsImage file t) o b.shelf.files_after in
     told b.shelf.files_after refl (subst P found left)
   where
-    told : (after : Option Files) → b.shelf.files_after ≡ after → WhereTold (HoldsImage t file) (Some files) after → Left files dir file b.shelf.files_after
+    told : (after : Option Files) → b.shelf.files_after ≡ after → WhereTold (HoldsImage file t) (Some files) after → Left files dir file b.shelf.files_after
     told None e h = absurd h
     told (Some held) e h = record { tables = t; served = is; held = held; told = e; holds = h }
 left_by files dir file b (Err e) is found left = absurd left
@@ -60,7 +59,7 @@ left_by files dir file b (Err e) is found left = absurd left
 built_left : (files : Files) (dir file : List ℕ) (b : Call) → b.form ≡ Some (Form.Build dir file) → b.shelf.files_before ≡ Some files → IsPromised b status.Done → Left files dir file b.shelf.files_after
 built_left files dir file b form found p =
     let P : Option Form → Type 0 = LeavesFiles b status.Done in
-    let Q : Option Files → Type 0 = λ o. IfSome o (λ held. LeftByDone b file (served held dir)) in
+    let Q : Option Files → Type 0 = λ o. IfSome o (λ held. LeavesWhole b (HoldsImage file) (served held dir)) in
     left_by files dir file b (served files dir) refl found (subst Q found (subst P form p.files))
 
 -- the tables of a call, and what it finished for them

@@ -1,13 +1,9 @@
 -- What is promised where tables or a file are served, exit by exit.
-use Rattle.std.proofs.Common.{◌≡◌, ℕ, ◌+◌, ◌<◌, ◌≤◌, List, [], length, take, refl, sym, ap, subst, Ok, Err, Result, Some, IfSome, IsTrue, inr, inl, Option, None, arith}
-use Rattle.std.specs.Prelude.{⊤, ◌⊎◌}
-use Rattle.std.specs.Io.KnownBytes.{Consumes}
-use Rattle.ports.specs.Outside.{Files, Rose}
-use Rattle.topo_base.specs.Script.{lines}
+use Rattle.std.proofs.Common.{◌≡◌, ℕ, ◌+◌, ◌≤◌, [], sym, subst, Ok, Err, Result, Some, IfSome, IsTrue, inr, inl, Option, arith}
 use Rattle.plane_model.specs.Rows.{Rows}
 use Rattle.plane_model.specs.PlaneMap.{PlaneMap, map_of}
 use Rattle.plane_model.specs.Consistent.{is_consistent}
-use Rattle.topo_serve.specs.Serving.{Serves, over_lines, words_of_line}
+use Rattle.topo_serve.specs.Serving.{Serves}
 use Rattle.topo_serve.specs.declared.fault.ServeFault.{ServeFault}
 use Rattle.topo_serve.specs.declared.fault.ServeFault.TheVariants as fault
 use Rattle.topo_cli.specs.declared.status.Status.{Status}
@@ -15,9 +11,9 @@ use Rattle.topo_cli.specs.declared.status.Status.TheVariants as status
 use Rattle.topo_cli.specs.Limits.{most_bytes}
 use Rattle.topo_cli.specs.Words.{Form}
 use Rattle.topo_cli.specs.Call.{Call}
-use Rattle.topo_cli.specs.Tables.{Ending, IsSubject, OnRead}
-use Rattle.topo_cli.specs.Serving.{IsServedAs, IsUnserved, serve_call, status_of}
-use Rattle.topo_cli.specs.Outcome.{Finished, FinishedPart, HasTables, IsAnswered, IsPromised, IsScriptTaken, IsUnread, IsUnreadUnlessServed, KeepsFiles, LeavesFiles, ReadsScript, ScriptWaits, TookAtMost, TookOfScript, WrotePart, WrotePartOf, most_taken, words_to_open}
+use Rattle.topo_cli.specs.Tables.{IsSubject}
+use Rattle.topo_cli.specs.Serving.{IsServedAs, serve_call, status_of}
+use Rattle.topo_cli.specs.Outcome.{Finished, FinishedPart, HasTables, IsAnswered, IsPromised, IsScriptTaken, IsUnreadUnlessServed, KeepsFiles, LeavesFiles, ReadsScript, ScriptWaits, TookAtMost, TookOfScript, WrotePartOf, most_taken, words_to_open}
 use Rattle.topo_cli.proofs.Complete.{promised}
 use Rattle.topo_cli.proofs.Statuses.{at_form, has_form, no_form, on_same, on_subject, some_form, wanting}
 use Rattle.topo_cli.proofs.Taken.{took_at_most}
@@ -46,6 +42,9 @@ leaves_as_before c k s reads form kept = let P : Option Form → Type 0 = Leaves
     left (Form.Query file) reads = kept
     left (Form.Check file) reads = absurd reads
     left (Form.Trial n) reads = absurd reads
+    left (Form.Hops file from to) reads = absurd reads
+    left (Form.Upgrade old new) reads = absurd reads
+    left (Form.Dump file dir) reads = absurd reads
 
 -- what was taken of the script
 script_taken : (c : Call) (k : Form) (t : Rows) (s : Status) → ReadsScript k → c.form ≡ Some k → IsSubject c.shelf.files_before k t → TookAtMost (most_taken s) c.script.left_before c.script.left_after → IsScriptTaken c s
@@ -62,6 +61,9 @@ script_taken c k t s reads form are few =
     waits (Form.Query file) reads are = on_same c.shelf.files_before (Form.Query file) (Ok t) (IsUnreadUnlessServed c) are tt
     waits (Form.Check file) reads are = absurd reads
     waits (Form.Trial n) reads are = absurd reads
+    waits (Form.Hops file from to) reads are = absurd reads
+    waits (Form.Upgrade old new) reads are = absurd reads
+    waits (Form.Dump file dir) reads are = absurd reads
 
 -- what such a form finishes with, and what of it was written
 finishes : (c : Call) (t : Rows) (k : Form) → ReadsScript k → TookOfScript c (IsAnswered c (map_of t)) → Finished c t k
@@ -70,6 +72,9 @@ finishes c t (Form.Build dir file) reads h = absurd reads
 finishes c t (Form.Query file) reads h = h
 finishes c t (Form.Check file) reads h = absurd reads
 finishes c t (Form.Trial n) reads h = absurd reads
+finishes c t (Form.Hops file from to) reads h = absurd reads
+finishes c t (Form.Upgrade old new) reads h = absurd reads
+finishes c t (Form.Dump file dir) reads h = absurd reads
 
 finishes_part : (c : Call) (t : Rows) (k : Form) → ReadsScript k → FinishedPart c t (Form.Ask []) → FinishedPart c t k
 finishes_part c t (Form.Ask dir) reads h = h
@@ -77,6 +82,9 @@ finishes_part c t (Form.Build dir file) reads h = absurd reads
 finishes_part c t (Form.Query file) reads h = h
 finishes_part c t (Form.Check file) reads h = absurd reads
 finishes_part c t (Form.Trial n) reads h = absurd reads
+finishes_part c t (Form.Hops file from to) reads h = absurd reads
+finishes_part c t (Form.Upgrade old new) reads h = absurd reads
+finishes_part c t (Form.Dump file dir) reads h = absurd reads
 
 -- what serving answered, as what is promised
 answered : (c : Call) (k : Form) (t : Rows) (opened : ℕ) → Serving c k t opened → (result : Result (Unit {0}) ServeFault)

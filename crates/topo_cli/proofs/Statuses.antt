@@ -7,7 +7,7 @@ use Rattle.plane_model.specs.Rows.{Rows}
 use Rattle.map_maker.specs.Grid.{grid_of}
 use Rattle.topo_cli.specs.Call.{Call}
 use Rattle.topo_cli.specs.Words.{Form}
-use Rattle.topo_cli.specs.Tables.{Ending, IsNeeded, IsSubject, OnRead, checked, opened, served}
+use Rattle.topo_cli.specs.Tables.{Ending, IsNeeded, OnRead, checked, opened, served}
 use Rattle.topo_cli.specs.Text.{status_line}
 use Rattle.topo_cli.specs.declared.status.Status.{Status}
 use Rattle.topo_cli.specs.declared.status.Status.TheVariants as status
@@ -15,7 +15,7 @@ use Rattle.topo_cli.specs.declared.load.LoadFault.{LoadFault}
 use Rattle.topo_cli.specs.declared.load.LoadFault.TheVariants as fault
 use Rattle.topo_cli.specs.Ended.{EndsLoading}
 use Rattle.topo_cli.specs.Loading.{IsEnding, IsShown}
-use Rattle.topo_cli.specs.Outcome.{ChecksTables, HasForm, IsFirst, IsMemory, IsPromised, IsScriptTaken, IsUnread, IsUnreadUnlessServed, KeepsFiles, LeavesFiles, LeftByFault, OnSubject, OpensFile, ReadsShelf, ScriptWaits, Wrote, WrotePart, WrotePartOf, most_taken}
+use Rattle.topo_cli.specs.Outcome.{ChecksTables, HasForm, HoldsFolder, HoldsFolderPart, HoldsImage, HoldsPart, HoldsUpgrade, HoldsUpgradePart, IsFirst, IsPromised, IsScriptTaken, IsUnread, IsUnreadUnlessServed, KeepsFiles, LeavesFiles, LeavesPart, LeavesWritten, OnSubject, OpensFile, ReadsShelf, ScriptWaits, Wrote, WrotePartOf, most_taken}
 use Rattle.topo_cli.proofs.Complete.{promised}
 use Rattle.topo_cli.proofs.Taken.{took_nothing}
 
@@ -35,6 +35,9 @@ on_each files (Form.Build dir file) P h = if_some files (λ held. P (served held
 on_each files (Form.Query file) P h = if_some files (λ held. P (opened held file)) (λ held. h (opened held file))
 on_each files (Form.Check file) P h = if_some files (λ held. P (opened held file)) (λ held. h (opened held file))
 on_each files (Form.Trial n) P h = h (checked (grid_of n))
+on_each files (Form.Hops file from to) P h = if_some files (λ held. P (opened held file)) (λ held. h (opened held file))
+on_each files (Form.Upgrade old new) P h = if_some files (λ held. P (opened held old)) (λ held. h (opened held old))
+on_each files (Form.Dump file dir) P h = if_some files (λ held. P (opened held file)) (λ held. h (opened held file))
 
 pub on_weaker : (files : Option Files) (k : Form) (P Q : Result Rows Ending → Type 0) → ((read : Result Rows Ending) → P read → Q read) → OnRead files k P → OnRead files k Q
 on_weaker files (Form.Ask dir) P Q each h = if_weaker files (λ held. P (served held dir)) (λ held. Q (served held dir)) (λ held. each (served held dir)) h
@@ -42,6 +45,9 @@ on_weaker files (Form.Build dir file) P Q each h = if_weaker files (λ held. P (
 on_weaker files (Form.Query file) P Q each h = if_weaker files (λ held. P (opened held file)) (λ held. Q (opened held file)) (λ held. each (opened held file)) h
 on_weaker files (Form.Check file) P Q each h = if_weaker files (λ held. P (opened held file)) (λ held. Q (opened held file)) (λ held. each (opened held file)) h
 on_weaker files (Form.Trial n) P Q each h = each (checked (grid_of n)) h
+on_weaker files (Form.Hops file from to) P Q each h = if_weaker files (λ held. P (opened held file)) (λ held. Q (opened held file)) (λ held. each (opened held file)) h
+on_weaker files (Form.Upgrade old new) P Q each h = if_weaker files (λ held. P (opened held old)) (λ held. Q (opened held old)) (λ held. each (opened held old)) h
+on_weaker files (Form.Dump file dir) P Q each h = if_weaker files (λ held. P (opened held file)) (λ held. Q (opened held file)) (λ held. each (opened held file)) h
 
 -- what holds of one outcome holds of what is read where it is that
 pub on_same : (files : Option Files) (k : Form) (x : Result Rows Ending) (P : Result Rows Ending → Type 0) → OnRead files k (λ read. read ≡ x) → P x → OnRead files k P
@@ -90,6 +96,9 @@ script_unread c s unread =
     waits (Form.Query file) = on_each c.shelf.files_before (Form.Query file) (IsUnreadUnlessServed c) unless
     waits (Form.Check file) = unread
     waits (Form.Trial n) = unread
+    waits (Form.Hops file from to) = unread
+    waits (Form.Upgrade old new) = unread
+    waits (Form.Dump file dir) = unread
 
 -- statuses after which the files are as before, whatever the words
 abbrev pub IsQuiet : Status → Type 0
@@ -103,21 +112,27 @@ IsQuiet status.Memory = ⊤
 IsQuiet status.Missing = ⊤
 IsQuiet status.TooLong = ⊤
 
+left_quiet : (c : Call) (k : Form) (Whole Part : Rows → Files → Files → Type 0) (s : Status) → IsQuiet s → KeepsFiles c → LeavesWritten c k Whole Part s
+left_quiet c k Whole Part status.Done quiet kept = absurd quiet
+left_quiet c k Whole Part status.Usage quiet kept = kept
+left_quiet c k Whole Part status.TablesRefused quiet kept = kept
+left_quiet c k Whole Part status.FileRefused quiet kept = kept
+left_quiet c k Whole Part status.ReadFault quiet kept = kept
+left_quiet c k Whole Part status.WriteFault quiet kept = absurd quiet
+left_quiet c k Whole Part status.Memory quiet kept = kept
+left_quiet c k Whole Part status.Missing quiet kept = kept
+left_quiet c k Whole Part status.TooLong quiet kept = kept
+
 pub leaves : (c : Call) (s : Status) (o : Option Form) → IsQuiet s → KeepsFiles c → LeavesFiles c s o
 leaves c s None quiet kept = kept
 leaves c s (Some (Form.Ask dir)) quiet kept = kept
+leaves c s (Some (Form.Build dir file)) quiet kept = left_quiet c (Form.Build dir file) (HoldsImage file) (HoldsPart file) s quiet kept
 leaves c s (Some (Form.Query file)) quiet kept = kept
 leaves c s (Some (Form.Check file)) quiet kept = kept
 leaves c s (Some (Form.Trial n)) quiet kept = kept
-leaves c status.Done (Some (Form.Build dir file)) quiet kept = absurd quiet
-leaves c status.Usage (Some (Form.Build dir file)) quiet kept = kept
-leaves c status.TablesRefused (Some (Form.Build dir file)) quiet kept = kept
-leaves c status.FileRefused (Some (Form.Build dir file)) quiet kept = kept
-leaves c status.ReadFault (Some (Form.Build dir file)) quiet kept = kept
-leaves c status.WriteFault (Some (Form.Build dir file)) quiet kept = absurd quiet
-leaves c status.Memory (Some (Form.Build dir file)) quiet kept = kept
-leaves c status.Missing (Some (Form.Build dir file)) quiet kept = kept
-leaves c status.TooLong (Some (Form.Build dir file)) quiet kept = kept
+leaves c s (Some (Form.Hops file from to)) quiet kept = kept
+leaves c s (Some (Form.Upgrade old new)) quiet kept = left_quiet c (Form.Upgrade old new) (HoldsUpgrade old new) (HoldsUpgradePart old new) s quiet kept
+leaves c s (Some (Form.Dump file dir)) quiet kept = left_quiet c (Form.Dump file dir) (HoldsFolder dir) (HoldsFolderPart dir) s quiet kept
 
 -- a line of a status could not be written
 pub leaves_unwritten : (c : Call) (k : Form) (e : Ending) → c.form ≡ Some k → OnRead c.shelf.files_before k (λ read. read ≡ Err e) → KeepsFiles c → LeavesFiles c status.WriteFault c.form
@@ -125,10 +140,13 @@ leaves_unwritten c k e form first kept = let P : Option Form → Type 0 = Leaves
   where
     left : (k : Form) → OnRead c.shelf.files_before k (λ read. read ≡ Err e) → LeavesFiles c status.WriteFault (Some k)
     left (Form.Ask dir) first = kept
-    left (Form.Build dir file) first = on_same c.shelf.files_before (Form.Build dir file) (Err e) (LeftByFault c file) first kept
+    left (Form.Build dir file) first = on_same c.shelf.files_before (Form.Build dir file) (Err e) (LeavesPart c (HoldsPart file)) first kept
     left (Form.Query file) first = kept
     left (Form.Check file) first = kept
     left (Form.Trial n) first = kept
+    left (Form.Hops file from to) first = kept
+    left (Form.Upgrade old new) first = on_same c.shelf.files_before (Form.Upgrade old new) (Err e) (LeavesPart c (HoldsUpgradePart old new)) first kept
+    left (Form.Dump file dir) first = on_same c.shelf.files_before (Form.Dump file dir) (Err e) (LeavesPart c (HoldsFolderPart dir)) first kept
 
 -- what loading can fail by, with words of a form
 abbrev pub Fits : Form → LoadFault → Type 0

@@ -10,3 +10,4 @@ pub mod Exit
 pub mod Ended
 pub mod Serving
 pub mod RoundTrip
+pub mod Dumping

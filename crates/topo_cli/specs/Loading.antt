@@ -1,5 +1,5 @@
 -- What stopped the loading of tables or of a file.
-use Rattle.std.specs.Prelude.{◌≡◌, ℕ, List, Option, Some, IfSome, Result, Ok, Err, IsTrue, string_bytes, ⊤}
+use Rattle.std.specs.Prelude.{◌≡◌, ℕ, List, Option, IfSome, Result, Ok, Err, IsTrue, string_bytes, ⊤}
 use Rattle.ports.specs.Outside.{Files, IsNotHeld, Rose}
 use Rattle.topo_cli.specs.Files.{IsLongFile}
 use Rattle.topo_cli.specs.Tables.{Ending, IsTable, checked, served}

@@ -1,5 +1,5 @@
 -- What each status of the program says of a call.
-use Rattle.std.specs.Prelude.{◌≡◌, ℕ, ◌+◌, ◌*◌, ◌≤◌, ◌⊎◌, List, [], ◌++◌, length, take, Option, Some, None, IfSome, IsSome, Result, Ok, Err, IsTrue, ⊤}
+use Rattle.std.specs.Prelude.{◌≡◌, ℕ, ◌+◌, ◌*◌, ◌≤◌, ◌⊎◌, List, [], ◌∷◌, ◌++◌, length, take, Option, Some, None, IfSome, IsSome, Result, Ok, Err, IsTrue, ⊤}
 use Rattle.std.specs.Io.KnownBytes.{Appends, Consumes}
 use Rattle.bit_words.specs.Digits.{digits}
 use Rattle.ports.specs.Outside.{Files, Rose, GainsPart, IsReadToEnd, OthersStay, WhereTold}
@@ -9,19 +9,25 @@ use Rattle.plane_model.specs.Rows.{Rows}
 use Rattle.plane_model.specs.PlaneMap.{PlaneMap, map_of}
 use Rattle.plane_model.specs.Consistent.{is_consistent, size}
 use Rattle.plane_model.specs.Answers.{answers}
+use Rattle.plane_model.specs.Texts.{table_text}
+use Rattle.topo_base.specs.declared.refusal.Table.TheVariants as table
 use Rattle.file_laws.specs.Image.{image_of}
 use Rattle.file_laws.specs.Lawful.{StandsFor, is_lawful}
 use Rattle.map_build.specs.Made.{contents_of_map}
 use Rattle.map_totals.specs.Totals.{adjacent_total, face_total, most_total_words, node_total}
+use Rattle.face_hops.specs.Prices.{most_hop_words}
+use Rattle.file_parts.specs.Upgrade.{IsUpgradeOf}
+use Rattle.table_dump.specs.Dumped.{AreWritten, AreWrittenInPart, NamedText}
+use Rattle.table_dump.specs.Prices.{most_dump_words}
 use Rattle.topo_serve.specs.Serving.{ended_answers, found_by_reads, over_lines, words_of_line}
 use Rattle.file_laws.specs.declared.fault.FileFault.{FileFault}
 use Rattle.topo_cli.specs.declared.status.Status.{Status}
 use Rattle.topo_cli.specs.declared.status.Status.TheVariants as status
 use Rattle.topo_cli.specs.Limits.{most_bytes}
-use Rattle.topo_cli.specs.Words.{Form}
+use Rattle.topo_cli.specs.Words.{Form, node_table, edge_table, face_table, region_table, member_table}
 use Rattle.topo_cli.specs.Call.{Call, IsIdle}
 use Rattle.topo_cli.specs.Tables.{AreTold, Ending, IsNeeded, IsSubject, OnRead}
-use Rattle.topo_cli.specs.Text.{built_line, lawful_line, status_line, trial_text}
+use Rattle.topo_cli.specs.Text.{built_line, dumped_line, has_both_faces, hops_line, lawful_line, moves_between, status_line, trial_text, upgraded_line}
 
 -- what was written, and nothing else
 abbrev pub Wrote : Call → List ℕ → Type 0
@@ -42,6 +48,9 @@ ReadsScript (Form.Build dir file) = ⊥
 ReadsScript (Form.Query file) = ⊤
 ReadsScript (Form.Check file) = ⊥
 ReadsScript (Form.Trial n) = ⊥
+ReadsScript (Form.Hops file from to) = ⊥
+ReadsScript (Form.Upgrade old new) = ⊥
+ReadsScript (Form.Dump file dir) = ⊥
 
 abbrev pub ChecksTables : Form → Type 0
 ChecksTables (Form.Ask dir) = ⊤
@@ -49,6 +58,9 @@ ChecksTables (Form.Build dir file) = ⊤
 ChecksTables (Form.Query file) = ⊥
 ChecksTables (Form.Check file) = ⊥
 ChecksTables (Form.Trial n) = ⊤
+ChecksTables (Form.Hops file from to) = ⊥
+ChecksTables (Form.Upgrade old new) = ⊥
+ChecksTables (Form.Dump file dir) = ⊥
 
 abbrev pub OpensFile : Form → Type 0
 OpensFile (Form.Ask dir) = ⊥
@@ -56,6 +68,9 @@ OpensFile (Form.Build dir file) = ⊥
 OpensFile (Form.Query file) = ⊤
 OpensFile (Form.Check file) = ⊤
 OpensFile (Form.Trial n) = ⊥
+OpensFile (Form.Hops file from to) = ⊤
+OpensFile (Form.Upgrade old new) = ⊤
+OpensFile (Form.Dump file dir) = ⊤
 
 abbrev pub ReadsShelf : Form → Type 0
 ReadsShelf (Form.Ask dir) = ⊤
@@ -63,6 +78,9 @@ ReadsShelf (Form.Build dir file) = ⊤
 ReadsShelf (Form.Query file) = ⊤
 ReadsShelf (Form.Check file) = ⊤
 ReadsShelf (Form.Trial n) = ⊥
+ReadsShelf (Form.Hops file from to) = ⊤
+ReadsShelf (Form.Upgrade old new) = ⊤
+ReadsShelf (Form.Dump file dir) = ⊤
 
 abbrev pub WritesFile : Form → Type 0
 WritesFile (Form.Ask dir) = ⊥
@@ -70,6 +88,9 @@ WritesFile (Form.Build dir file) = ⊤
 WritesFile (Form.Query file) = ⊥
 WritesFile (Form.Check file) = ⊥
 WritesFile (Form.Trial n) = ⊥
+WritesFile (Form.Hops file from to) = ⊥
+WritesFile (Form.Upgrade old new) = ⊤
+WritesFile (Form.Dump file dir) = ⊤
 
 -- a fact of what comes of the tables or the file that the words name, where the files that they need are told
 abbrev pub OnSubject : Call → (Form → Result Rows Ending → Type 0) → Type 0
@@ -122,6 +143,9 @@ ScriptWaits c (Form.Build dir file) = IsUnread c
 ScriptWaits c (Form.Query file) = OnRead c.shelf.files_before (Form.Query file) (IsUnreadUnlessServed c)
 ScriptWaits c (Form.Check file) = IsUnread c
 ScriptWaits c (Form.Trial n) = IsUnread c
+ScriptWaits c (Form.Hops file from to) = IsUnread c
+ScriptWaits c (Form.Upgrade old new) = IsUnread c
+ScriptWaits c (Form.Dump file dir) = IsUnread c
 
 -- what is taken of the script, whatever the status
 pub record IsScriptTaken (c : Call) (s : Status) : Type 0 where
@@ -135,53 +159,94 @@ pub record IsImageOf (t : Rows) (image : List ℕ) : Type 0 where
   pub lawful : IsTrue (is_lawful image)
   pub stands : StandsFor image t
 
--- a name holds the image of tables, and all other names are as before
-pub record HoldsImage (t : Rows) (name : List ℕ) (before after : Files) : Type 0 where
+-- the file of form 2 of what a file holds whose bytes are lawful
+pub record IsUpgrade (files : Files) (old image : List ℕ) : Type 0 where
+  pub bytes : List ℕ
+  pub held : files old ≡ Some bytes
+  pub lawful : IsTrue (is_lawful bytes)
+  pub is : IsUpgradeOf bytes image
+
+-- a name holds an image such as this, and all other names are as before
+pub record HoldsSuch (IsSuch : List ℕ → Type 0) (name : List ℕ) (before after : Files) : Type 0 where
   pub image : List ℕ
-  pub is : IsImageOf t image
+  pub is : IsSuch image
   pub held : after name ≡ Some image
   pub others : OthersStay name before after
 
--- a name holds what it held, or nothing, or a part of the image of tables from its first byte on, and all other names are as before
-pub record HoldsPart (t : Rows) (name : List ℕ) (before after : Files) : Type 0 where
+-- a name holds what it held, or nothing, or a part of an image such as this from its first byte on, and all other names are as before
+pub record HoldsPartOfSuch (IsSuch : List ℕ → Type 0) (name : List ℕ) (before after : Files) : Type 0 where
   pub image : List ℕ
-  pub is : IsImageOf t image
+  pub is : IsSuch image
   pub held : (after name ≡ before name) ⊎ (after name ≡ None) ⊎ ((part : List ℕ) × (rest : List ℕ) × (part ++ rest ≡ image) × (after name ≡ Some part))
   pub others : OthersStay name before after
+
+-- the name holds the image of these tables, or a part of it
+abbrev pub HoldsImage : List ℕ → Rows → Files → Files → Type 0
+HoldsImage file t before after = HoldsSuch (IsImageOf t) file before after
+
+abbrev pub HoldsPart : List ℕ → Rows → Files → Files → Type 0
+HoldsPart file t before after = HoldsPartOfSuch (IsImageOf t) file before after
+
+-- the new name holds the upgrade of what the old one held, or a part of it
+abbrev pub HoldsUpgrade : List ℕ → List ℕ → Rows → Files → Files → Type 0
+HoldsUpgrade old new t before after = HoldsSuch (IsUpgrade before old) new before after
+
+abbrev pub HoldsUpgradePart : List ℕ → List ℕ → Rows → Files → Files → Type 0
+HoldsUpgradePart old new t before after = HoldsPartOfSuch (IsUpgrade before old) new before after
+
+-- the tables of a map in a folder, in the order in which they are written
+abbrev pub folder_of : List ℕ → PlaneMap → List NamedText
+folder_of dir m =
+    record { name = node_table dir; bytes = table_text m table.Node }
+    ∷ record { name = edge_table dir; bytes = table_text m table.Edge }
+    ∷ record { name = face_table dir; bytes = table_text m table.Face }
+    ∷ record { name = region_table dir; bytes = table_text m table.Region }
+    ∷ record { name = member_table dir; bytes = table_text m table.Member }
+    ∷ []
+
+-- the folder holds each table, or those before one of them, and a part of that one; all other names are as before
+abbrev pub HoldsFolder : List ℕ → Rows → Files → Files → Type 0
+HoldsFolder dir t before after = AreWritten (folder_of dir (map_of t)) before after
+
+abbrev pub HoldsFolderPart : List ℕ → Rows → Files → Files → Type 0
+HoldsFolderPart dir t before after = AreWrittenInPart (folder_of dir (map_of t)) before after
 
 -- the shelf's files are as before
 abbrev pub KeepsFiles : Call → Type 0
 KeepsFiles c = c.shelf.files_after ≡ c.shelf.files_before
 
--- what a finished `build` leaves, and one whose write failed
-abbrev pub LeftByDone : Call → List ℕ → Result Rows Ending → Type 0
-LeftByDone c file (Ok t) = WhereTold (HoldsImage t file) c.shelf.files_before c.shelf.files_after
-LeftByDone c file (Err e) = ⊥
+-- what a finished command leaves of these tables, and one whose write failed
+abbrev pub LeavesWhole : Call → (Rows → Files → Files → Type 0) → Result Rows Ending → Type 0
+LeavesWhole c Whole (Ok t) = WhereTold (Whole t) c.shelf.files_before c.shelf.files_after
+LeavesWhole c Whole (Err e) = ⊥
 
-abbrev pub LeftByFault : Call → List ℕ → Result Rows Ending → Type 0
-LeftByFault c file (Ok t) = WhereTold (HoldsPart t file) c.shelf.files_before c.shelf.files_after
-LeftByFault c file (Err e) = KeepsFiles c
+abbrev pub LeavesPart : Call → (Rows → Files → Files → Type 0) → Result Rows Ending → Type 0
+LeavesPart c Part (Ok t) = WhereTold (Part t) c.shelf.files_before c.shelf.files_after
+LeavesPart c Part (Err e) = KeepsFiles c
 
--- what `build DIR FILE` leaves
-abbrev pub LeftByBuild : Call → List ℕ → List ℕ → Status → Type 0
-LeftByBuild c dir file status.Done = OnRead c.shelf.files_before (Form.Build dir file) (LeftByDone c file)
-LeftByBuild c dir file status.WriteFault = OnRead c.shelf.files_before (Form.Build dir file) (LeftByFault c file)
-LeftByBuild c dir file status.Usage = KeepsFiles c
-LeftByBuild c dir file status.TablesRefused = KeepsFiles c
-LeftByBuild c dir file status.FileRefused = KeepsFiles c
-LeftByBuild c dir file status.ReadFault = KeepsFiles c
-LeftByBuild c dir file status.Memory = KeepsFiles c
-LeftByBuild c dir file status.Missing = KeepsFiles c
-LeftByBuild c dir file status.TooLong = KeepsFiles c
+-- what a command that writes leaves
+abbrev pub LeavesWritten : Call → Form → (Rows → Files → Files → Type 0) → (Rows → Files → Files → Type 0) → Status → Type 0
+LeavesWritten c k Whole Part status.Done = OnRead c.shelf.files_before k (LeavesWhole c Whole)
+LeavesWritten c k Whole Part status.WriteFault = OnRead c.shelf.files_before k (LeavesPart c Part)
+LeavesWritten c k Whole Part status.Usage = KeepsFiles c
+LeavesWritten c k Whole Part status.TablesRefused = KeepsFiles c
+LeavesWritten c k Whole Part status.FileRefused = KeepsFiles c
+LeavesWritten c k Whole Part status.ReadFault = KeepsFiles c
+LeavesWritten c k Whole Part status.Memory = KeepsFiles c
+LeavesWritten c k Whole Part status.Missing = KeepsFiles c
+LeavesWritten c k Whole Part status.TooLong = KeepsFiles c
 
--- what stands on the shelf after a status: `build` alone changes it
+-- what stands on the shelf after a status: `build`, `upgrade` and `dump` alone change it
 abbrev pub LeavesFiles : Call → Status → Option Form → Type 0
 LeavesFiles c s None = KeepsFiles c
 LeavesFiles c s (Some (Form.Ask dir)) = KeepsFiles c
-LeavesFiles c s (Some (Form.Build dir file)) = LeftByBuild c dir file s
+LeavesFiles c s (Some (Form.Build dir file)) = LeavesWritten c (Form.Build dir file) (HoldsImage file) (HoldsPart file) s
 LeavesFiles c s (Some (Form.Query file)) = KeepsFiles c
 LeavesFiles c s (Some (Form.Check file)) = KeepsFiles c
 LeavesFiles c s (Some (Form.Trial n)) = KeepsFiles c
+LeavesFiles c s (Some (Form.Hops file from to)) = KeepsFiles c
+LeavesFiles c s (Some (Form.Upgrade old new)) = LeavesWritten c (Form.Upgrade old new) (HoldsUpgrade old new) (HoldsUpgradePart old new) s
+LeavesFiles c s (Some (Form.Dump file dir)) = LeavesWritten c (Form.Dump file dir) (HoldsFolder dir) (HoldsFolderPart dir) s
 
 -- how many words may be read to open the file of a map
 abbrev pub words_to_open : PlaneMap → ℕ
@@ -206,6 +271,18 @@ pub record IsWalked (c : Call) (m : PlaneMap) (n : ℕ) : Type 0 where
   pub least : c.steps_before + (face_total m + node_total m + adjacent_total m) ≤ c.steps_after
   pub most : c.steps_after ≤ c.steps_before + words_to_open m + most_total_words m
 
+-- the line of a shortest walk was written; words were read for each of its moves
+pub record IsHopped (c : Call) (m : PlaneMap) (from to : ℕ) : Type 0 where
+  pub wrote : Wrote c (hops_line m from to)
+  pub least : IsTrue (has_both_faces m from to) → c.steps_before + moves_between m from to ≤ c.steps_after
+  pub most : c.steps_after ≤ c.steps_before + words_to_open m + most_hop_words m
+
+-- the tables of the map of a file were written, and a line of its counts; words were read for each of its edges
+pub record IsDumped (c : Call) (m : PlaneMap) : Type 0 where
+  pub wrote : Wrote c (dumped_line m)
+  pub least : c.steps_before + length m.edges.keys ≤ c.steps_after
+  pub most : c.steps_after ≤ c.steps_before + words_to_open m + most_dump_words m
+
 -- what is done for tables that are consistent, or that a lawful file stands for
 abbrev pub Finished : Call → Rows → Form → Type 0
 Finished c t (Form.Ask dir) = TookOfScript c (IsAnswered c (map_of t))
@@ -213,6 +290,9 @@ Finished c t (Form.Build dir file) = IsReported c (map_of t) (built_line (map_of
 Finished c t (Form.Query file) = TookOfScript c (IsAnswered c (map_of t))
 Finished c t (Form.Check file) = IsReported c (map_of t) (lawful_line (map_of t))
 Finished c t (Form.Trial n) = IsWalked c (map_of t) n
+Finished c t (Form.Hops file from to) = IsHopped c (map_of t) from to
+Finished c t (Form.Upgrade old new) = Wrote c (upgraded_line (map_of t))
+Finished c t (Form.Dump file dir) = IsDumped c (map_of t)
 
 -- all was done
 pub record IsDone (c : Call) : Type 0 where
@@ -274,6 +354,9 @@ FinishedPart c t (Form.Build dir file) = WrotePart c (built_line (map_of t))
 FinishedPart c t (Form.Query file) = TookOfScript c (λ taken. (length taken ≤ most_bytes) × WrotePart c (answers (map_of t) taken))
 FinishedPart c t (Form.Check file) = WrotePart c (lawful_line (map_of t))
 FinishedPart c t (Form.Trial n) = WrotePart c (trial_text n (map_of t))
+FinishedPart c t (Form.Hops file from to) = WrotePart c (hops_line (map_of t) from to)
+FinishedPart c t (Form.Upgrade old new) = WrotePart c (upgraded_line (map_of t))
+FinishedPart c t (Form.Dump file dir) = WrotePart c (dumped_line (map_of t))
 
 -- a part was written of the line of a status, or of what a command writes
 abbrev pub WrotePartOf : Call → Form → Result Rows Ending → Type 0
@@ -284,7 +367,7 @@ WrotePartOf c k (Err Ending.Long) = ⊥
 WrotePartOf c k (Err (Ending.Refused e)) = WrotePart c (status_line (Ending.Refused e))
 WrotePartOf c k (Err (Ending.Unlawful e)) = WrotePart c (status_line (Ending.Unlawful e))
 
--- the tables are consistent, and the file could not be written
+-- the tables are consistent or the file that is read is lawful, and what the command writes could not be written
 pub record IsUnwritten (c : Call) : Type 0 where
   pub rose : Rose c.shelf.write_faults_before c.shelf.write_faults_after
   pub form : HasForm WritesFile c.form
@@ -344,6 +427,9 @@ IsScriptFineFor c (Form.Build dir file) = ⊤
 IsScriptFineFor c (Form.Query file) = IsScriptFine c
 IsScriptFineFor c (Form.Check file) = ⊤
 IsScriptFineFor c (Form.Trial n) = ⊤
+IsScriptFineFor c (Form.Hops file from to) = ⊤
+IsScriptFineFor c (Form.Upgrade old new) = ⊤
+IsScriptFineFor c (Form.Dump file dir) = ⊤
 
 -- the words are of a form, what they need is told and fine, and no count of faults rose
 pub record IsFine (c : Call) : Type 0 where

@@ -1,5 +1,5 @@
 -- A map that is built into a file, and asked from its tables and from that file.
-use Rattle.std.specs.Prelude.{◌≡◌, ℕ, List, Option, Some}
+use Rattle.std.specs.Prelude.{◌≡◌, ℕ, List, Some}
 use Rattle.ports.specs.Outside.{Files}
 use Rattle.topo_cli.specs.Call.{Call}
 use Rattle.topo_cli.specs.Words.{Form}

@@ -96,6 +96,9 @@ OnRead files (Form.Build dir file) P = IfSome files (λ held. P (served held dir
 OnRead files (Form.Query file) P = IfSome files (λ held. P (opened held file))
 OnRead files (Form.Check file) P = IfSome files (λ held. P (opened held file))
 OnRead files (Form.Trial n) P = P (checked (grid_of n))
+OnRead files (Form.Hops file from to) P = IfSome files (λ held. P (opened held file))
+OnRead files (Form.Upgrade old new) P = IfSome files (λ held. P (opened held old))
+OnRead files (Form.Dump file dir) P = IfSome files (λ held. P (opened held file))
 
 -- these are the tables that words ask for
 abbrev pub IsSubject : Option Files → Form → Rows → Type 0
@@ -108,6 +111,9 @@ AreTold files (Form.Build dir file) = IsSome files
 AreTold files (Form.Query file) = IsSome files
 AreTold files (Form.Check file) = IsSome files
 AreTold files (Form.Trial n) = ⊤
+AreTold files (Form.Hops file from to) = IsSome files
+AreTold files (Form.Upgrade old new) = IsSome files
+AreTold files (Form.Dump file dir) = IsSome files
 
 -- one of the names that a folder needs
 abbrev pub IsTable : List ℕ → List ℕ → Type 0
@@ -120,3 +126,6 @@ IsNeeded (Form.Build dir file) name = IsTable dir name
 IsNeeded (Form.Query file) name = name ≡ file
 IsNeeded (Form.Check file) name = name ≡ file
 IsNeeded (Form.Trial n) name = ⊥
+IsNeeded (Form.Hops file from to) name = name ≡ file
+IsNeeded (Form.Upgrade old new) name = name ≡ old
+IsNeeded (Form.Dump file dir) name = name ≡ file

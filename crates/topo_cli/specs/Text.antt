@@ -1,5 +1,5 @@
 -- The lines that the program itself writes.
-use Rattle.std.specs.Prelude.{ℕ, ℤ, List, [], ◌∷◌, ◌++◌, codes, decimal}
+use Rattle.std.specs.Prelude.{ℕ, ℤ, Bool, ◌&&◌, List, [], ◌∷◌, ◌++◌, map, Option, codes, decimal, unwrap_or}
 use Rattle.std.specs.Fmt.{signed_decimal}
 use Rattle.topo_base.specs.declared.refusal.Table.{Table}
 use Rattle.topo_base.specs.declared.refusal.Table.TheVariants as table
@@ -8,8 +8,10 @@ use Rattle.topo_base.specs.declared.refusal.Refusal.{Refusal}
 use Rattle.topo_base.specs.declared.refusal.Refusal.TheVariants as refusal
 use Rattle.plane_model.specs.Reading.{column_name}
 use Rattle.plane_model.specs.PlaneMap.{PlaneMap}
-use Rattle.plane_model.specs.Answers.{after_colon, items}
-use Rattle.topo_base.specs.Script.{Query}
+use Rattle.plane_model.specs.Rotation.{is_face}
+use Rattle.plane_model.specs.Hops.{distance, hops}
+use Rattle.plane_model.specs.Answers.{after_colon, items, where_known}
+use Rattle.topo_base.specs.Script.{Item, Query}
 use Rattle.code_laws.specs.declared.seq_fault.SeqFault.{SeqFault}
 use Rattle.code_laws.specs.declared.seq_fault.SeqFault.TheVariants as seq
 use Rattle.pemb_file.specs.declared.counts.Counts.{Counts}
@@ -105,6 +107,12 @@ built_line m = counts_line (codes "built") m
 abbrev pub lawful_line : PlaneMap → List ℕ
 lawful_line m = counts_line (codes "lawful") m
 
+abbrev pub upgraded_line : PlaneMap → List ℕ
+upgraded_line m = counts_line (codes "upgraded") m
+
+abbrev pub dumped_line : PlaneMap → List ℕ
+dumped_line m = counts_line (codes "dumped") m
+
 -- a word and one number
 abbrev pub number_line : List ℕ → ℕ → List ℕ
 number_line word n = word ++ codes " " ++ decimal n ++ 10 ∷ []
@@ -117,6 +125,26 @@ trial_text n m =
     ++ number_line (codes "face") (face_total m)
     ++ number_line (codes "node") (node_total m)
     ++ number_line (codes "adjacent") (adjacent_total m)
+
+-- whether a map has both faces
+abbrev pub has_both_faces : PlaneMap → ℕ → ℕ → Bool
+has_both_faces m f g = is_face m f && is_face m g
+
+-- the fewest moves from one face to another
+abbrev pub moves_between : PlaneMap → ℕ → ℕ → ℕ
+moves_between m f g = unwrap_or (distance m f g) 0
+
+-- the moves and the faces of the shortest walk, or nothing where the map lacks one of the faces
+abbrev pub hop_items : PlaneMap → ℕ → ℕ → Option (List Item)
+hop_items m f g = where_known (has_both_faces m f g) (map Item.Number (moves_between m f g ∷ hops m f g))
+
+-- the word and the faces that were asked for, before the colon
+abbrev pub hops_text : ℕ → ℕ → List ℕ
+hops_text f g = codes "hops " ++ decimal f ++ codes " " ++ decimal g
+
+-- the line of a shortest walk
+abbrev pub hops_line : PlaneMap → ℕ → ℕ → List ℕ
+hops_line m f g = hops_text f g ++ codes ":" ++ after_colon (hop_items m f g) ++ 10 ∷ []
 
 -- the line that the program writes where nothing is served: of the words, the missing name or the first fault
 abbrev pub status_line : Ending → List ℕ

@@ -1,6 +1,6 @@
 -- The words that the program is given.
 use Rattle.std.specs.Prelude.{ℕ, nat_le, if◌then◌else◌, List, [], ◌∷◌, ◌++◌, Option, Some, None, codes, bytes_eq, option_map, option_and_then}
-use Rattle.topo_base.specs.Spelling.{positive_number}
+use Rattle.topo_base.specs.Spelling.{id_number, positive_number}
 use Rattle.topo_cli.specs.declared.command.Command.{Command}
 use Rattle.topo_cli.specs.declared.command.Command.TheVariants as command
 
@@ -16,6 +16,12 @@ pub data Form : Type 0 where
   Check : List ℕ → Form
   -- `trial N`: the sums of the walks over the grid of a size
   Trial : ℕ → Form
+  -- `hops FILE F G`: a shortest walk from one face to another, in a built file
+  Hops : List ℕ → ℕ → ℕ → Form
+  -- `upgrade OLD NEW`: the file of form 2 that stands for the map of a built file, written to a file
+  Upgrade : List ℕ → List ℕ → Form
+  -- `dump FILE DIR`: the tables of a built file, written to a folder
+  Dump : List ℕ → List ℕ → Form
 
 -- the size of a grid: plain decimal from 1 to 1000
 abbrev pub grid_size : List ℕ → Option ℕ
@@ -31,9 +37,21 @@ form_of_two word (b ∷ name) =
     else None
 
 abbrev pub form_of_three : List ℕ → List ℕ → List ℕ → Option Form
-form_of_three word [] file = None
-form_of_three word (b ∷ dir) [] = None
-form_of_three word (b ∷ dir) (c ∷ file) = if bytes_eq word (codes "build") then Some (Build (b ∷ dir) (c ∷ file)) else None
+form_of_three word [] second = None
+form_of_three word (b ∷ first) [] = None
+form_of_three word (b ∷ first) (c ∷ second) =
+    if bytes_eq word (codes "build") then Some (Build (b ∷ first) (c ∷ second))
+    else if bytes_eq word (codes "upgrade") then Some (Upgrade (b ∷ first) (c ∷ second))
+    else if bytes_eq word (codes "dump") then Some (Dump (b ∷ first) (c ∷ second))
+    else None
+
+-- two faces of a built file
+abbrev pub hops_of : List ℕ → List ℕ → List ℕ → Option Form
+hops_of file from to = option_and_then (λ f. option_map (Hops file f) (id_number to)) (id_number from)
+
+abbrev pub form_of_four : List ℕ → List ℕ → List ℕ → List ℕ → Option Form
+form_of_four word [] from to = None
+form_of_four word (b ∷ file) from to = if bytes_eq word (codes "hops") then hops_of (b ∷ file) from to else None
 
 -- the form of words, where they are of one
 abbrev pub form : List (List ℕ) → Option Form
@@ -41,7 +59,8 @@ form [] = None
 form (word ∷ []) = None
 form (word ∷ name ∷ []) = form_of_two word name
 form (word ∷ dir ∷ file ∷ []) = form_of_three word dir file
-form (word ∷ dir ∷ file ∷ fourth ∷ more) = None
+form (word ∷ file ∷ from ∷ to ∷ []) = form_of_four word file from to
+form (word ∷ file ∷ from ∷ to ∷ fifth ∷ more) = None
 
 -- what the code keeps of it
 abbrev pub form_of : Command → Form
@@ -50,6 +69,9 @@ form_of (command.Build dir file) = Build dir.now file.now
 form_of (command.Query file) = Query file.now
 form_of (command.Check file) = Check file.now
 form_of (command.Trial size) = Trial size
+form_of (command.Hops file from to) = Hops file.now from.0 to.0
+form_of (command.Upgrade old new) = Upgrade old.now new.now
+form_of (command.Dump file dir) = Dump file.now dir.now
 
 -- the names of a folder's tables
 abbrev pub node_table : List ℕ → List ℕ

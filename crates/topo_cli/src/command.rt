@@ -1,23 +1,50 @@
 //! What the words of the command line ask for.
 
 ghost use Rattle.std.specs.Prelude.{◌≡◌, map, option_map, string_bytes};
-ghost use Rattle.topo_cli.specs.Words.{form, form_of, form_of_three, form_of_two, grid_size};
+ghost use Rattle.topo_cli.specs.Words.{form, form_of, form_of_four, form_of_three, form_of_two, grid_size, hops_of};
 
-use topo_base::{IdNumber, read_positive};
+use topo_base::{FaceId, IdNumber, read_id, read_positive};
 
 /// What the words ask for.
 #[derive(Clone, Copy, Debug, PartialEq, Eq)]
 pub enum Command<'a> {
     /// Answers to the script, from the tables of a folder.
-    Ask { dir: &'a str },
+    Ask {
+        dir: &'a str,
+    },
     /// The image of a folder's tables, written to a file.
-    Build { dir: &'a str, file: &'a str },
+    Build {
+        dir: &'a str,
+        file: &'a str,
+    },
     /// Answers to the script, from a built file.
-    Query { file: &'a str },
+    Query {
+        file: &'a str,
+    },
     /// Whether a file is lawful.
-    Check { file: &'a str },
+    Check {
+        file: &'a str,
+    },
     /// The sums of the walks over the grid of a size.
-    Trial { size: u32 },
+    Trial {
+        size: u32,
+    },
+    /// A shortest walk from one face to another, in a built file.
+    Hops {
+        file: &'a str,
+        from: FaceId,
+        to: FaceId,
+    },
+    /// The file of form 2 that stands for the map of a built file, written to a file.
+    Upgrade {
+        old: &'a str,
+        new: &'a str,
+    },
+    /// The tables of a built file, written to a folder.
+    Dump {
+        file: &'a str,
+        dir: &'a str,
+    },
 }
 
 /// The most squares along a side of a grid.
@@ -56,11 +83,46 @@ fn command_of_two<'a>(word: &str, name: &'a str) -> Option<Command<'a>>
 }
 
 /// A command and two names.
-fn command_of_three<'a>(word: &str, dir: &'a str, file: &'a str) -> Option<Command<'a>>
-    ensures { option_map form_of result ≡ form_of_three word.now dir.now file.now }
+fn command_of_three<'a>(word: &str, name: &'a str, other: &'a str) -> Option<Command<'a>>
+    ensures { option_map form_of result ≡ form_of_three word.now name.now other.now }
 {
-    if word == "build" && !dir.is_empty() && !file.is_empty() {
-        Some(Command::Build { dir, file })
+    if name.is_empty() || other.is_empty() {
+        None
+    } else if word == "build" {
+        Some(Command::Build {
+            dir: name,
+            file: other,
+        })
+    } else if word == "upgrade" {
+        Some(Command::Upgrade {
+            old: name,
+            new: other,
+        })
+    } else if word == "dump" {
+        Some(Command::Dump {
+            file: name,
+            dir: other,
+        })
+    } else {
+        None
+    }
+}
+
+/// A file and two faces in it.
+fn hops<'a>(file: &'a str, from: &str, to: &str) -> Option<Command<'a>>
+    ensures { option_map form_of result ≡ hops_of file.now from.now to.now }
+{
+    let from = FaceId(read_id(from.as_bytes())?);
+    let to = FaceId(read_id(to.as_bytes())?);
+    Some(Command::Hops { file, from, to })
+}
+
+/// A command, a name and two ids.
+fn command_of_four<'a>(word: &str, file: &'a str, from: &str, to: &str) -> Option<Command<'a>>
+    ensures { option_map form_of result ≡ form_of_four word.now file.now from.now to.now }
+{
+    if word == "hops" && !file.is_empty() {
+        hops(file, from, to)
     } else {
         None
     }
@@ -72,7 +134,10 @@ pub fn command_of(words: &[String]) -> Option<Command<'_>>
 {
     match words {
         [word, name] => command_of_two(word.as_str(), name.as_str()),
-        [word, dir, file] => command_of_three(word.as_str(), dir.as_str(), file.as_str()),
+        [word, name, other] => command_of_three(word.as_str(), name.as_str(), other.as_str()),
+        [word, file, from, to] => {
+            command_of_four(word.as_str(), file.as_str(), from.as_str(), to.as_str())
+        }
         _ => None,
     }
 }

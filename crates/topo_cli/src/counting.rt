@@ -12,7 +12,7 @@ use std::alloc::{AllocError, Global};
 use topo_base::IdNumber;
 
 /// Appends a number behind a space.
-fn append_number(text: &mut Vec<u8>, number: IdNumber) -> Result<(), AllocError>
+pub fn append_number(text: &mut Vec<u8>, number: IdNumber) -> Result<(), AllocError>
     ensures { OnOk result (text.new.items ≡ text.old.items ++ item_text (Number number)) }
 {
     text.extend_from_slice(number_item(number).as_slice())

@@ -273,6 +273,7 @@ pub fn load_file<H: Shelf>(alloc: Global, shelf: &mut H, file: &str) -> Result<V
     ensures named { IfErr result (NamesFile file.now) }
     ensures shown { IfErr result (λ e. IsShown e (H.misses shelf.old) (H.misses shelf.new) (H.faults shelf.old) (H.faults shelf.new)) }
     ensures kept { H.files shelf.new ≡ H.files shelf.old }
+    ensures no_write_fault { H.write_faults shelf.new ≡ H.write_faults shelf.old }
 {
     let name = String::from_str(alloc, file)?;
     held_bytes(alloc, shelf, name)

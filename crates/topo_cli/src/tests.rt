@@ -4,6 +4,7 @@ ghost use Rattle.std.specs.Prelude.{◌≡◌, ◌<◌, ◌≤◌};
 
 mod long_cycle;
 
+use crate::trial::grid_image;
 use crate::{Status, run};
 use bit_words::Steps;
 use ports::{
@@ -1122,11 +1123,20 @@ fn run_unasked<H: Shelf, K: Sink, L: Ledger>(
     run_words(alloc, words, shelf, &mut script, out, steps)
 }
 
-/// The calls that fail while the triangle is built, and how that has to end: `held` is how many bytes of the image
-/// stand in the file, which may be missing.
+/// A build of the triangle's folder into `map.pemb`.
+const BUILD: [&str; 3] = ["build", "maps", "map.pemb"];
+
+/// An upgrade of the triangle's file in form 1, and one of that file in place.
+const UPGRADE: [&str; 3] = ["upgrade", "old.pemb", "map.pemb"];
+
+const UPGRADE_IN_PLACE: [&str; 3] = ["upgrade", "old.pemb", "old.pemb"];
+
+/// The calls that fail while the triangle's file is written, and how that has to end: `held` is how many bytes of the
+/// image stand in the file, which may be missing, or of the file in form 1 where that was not replaced.
 #[derive(Clone, Copy)]
 struct BuildCase {
     shows: &'static str,
+    words: [&'static str; 3],
     shelf: &'static [u64],
     sink: &'static [u64],
     status: Status,
@@ -1134,9 +1144,10 @@ struct BuildCase {
     held: Option<usize>,
 }
 
-const BUILDS: [BuildCase; 13] = [
+const BUILDS: [BuildCase; 20] = [
     BuildCase {
         shows: "a build",
+        words: BUILD,
         shelf: &[],
         sink: &[],
         status: Status::Done,
@@ -1145,6 +1156,7 @@ const BUILDS: [BuildCase; 13] = [
     },
     BuildCase {
         shows: "a build whose line is written in part",
+        words: BUILD,
         shelf: &[],
         sink: &[1],
         status: Status::WriteFault,
@@ -1153,6 +1165,7 @@ const BUILDS: [BuildCase; 13] = [
     },
     BuildCase {
         shows: "a failing first read of the node table",
+        words: BUILD,
         shelf: &[1],
         sink: &[],
         status: Status::ReadFault,
@@ -1161,6 +1174,7 @@ const BUILDS: [BuildCase; 13] = [
     },
     BuildCase {
         shows: "a failing second read of the node table",
+        words: BUILD,
         shelf: &[2],
         sink: &[],
         status: Status::ReadFault,
@@ -1169,6 +1183,7 @@ const BUILDS: [BuildCase; 13] = [
     },
     BuildCase {
         shows: "a failing first read of the edge table",
+        words: BUILD,
         shelf: &[3],
         sink: &[],
         status: Status::ReadFault,
@@ -1177,6 +1192,7 @@ const BUILDS: [BuildCase; 13] = [
     },
     BuildCase {
         shows: "a failing second read of the edge table",
+        words: BUILD,
         shelf: &[4],
         sink: &[],
         status: Status::ReadFault,
@@ -1185,6 +1201,7 @@ const BUILDS: [BuildCase; 13] = [
     },
     BuildCase {
         shows: "a failing first read of the face table",
+        words: BUILD,
         shelf: &[5],
         sink: &[],
         status: Status::ReadFault,
@@ -1193,6 +1210,7 @@ const BUILDS: [BuildCase; 13] = [
     },
     BuildCase {
         shows: "a failing second read of the face table",
+        words: BUILD,
         shelf: &[6],
         sink: &[],
         status: Status::ReadFault,
@@ -1201,6 +1219,7 @@ const BUILDS: [BuildCase; 13] = [
     },
     BuildCase {
         shows: "a failing read of the region table",
+        words: BUILD,
         shelf: &[7],
         sink: &[],
         status: Status::ReadFault,
@@ -1209,6 +1228,7 @@ const BUILDS: [BuildCase; 13] = [
     },
     BuildCase {
         shows: "a failing read of the member table",
+        words: BUILD,
         shelf: &[8],
         sink: &[],
         status: Status::ReadFault,
@@ -1217,6 +1237,7 @@ const BUILDS: [BuildCase; 13] = [
     },
     BuildCase {
         shows: "a failing start of the file",
+        words: BUILD,
         shelf: &[9],
         sink: &[],
         status: Status::WriteFault,
@@ -1225,6 +1246,7 @@ const BUILDS: [BuildCase; 13] = [
     },
     BuildCase {
         shows: "an image that is written in part",
+        words: BUILD,
         shelf: &[10],
         sink: &[],
         status: Status::WriteFault,
@@ -1233,36 +1255,147 @@ const BUILDS: [BuildCase; 13] = [
     },
     BuildCase {
         shows: "a call that is not made",
+        words: BUILD,
         shelf: &[11],
         sink: &[],
         status: Status::Done,
         out: "built 3 3 1 1 0\n",
         held: Some(432),
     },
+    BuildCase {
+        shows: "a failing second read of the old file",
+        words: UPGRADE,
+        shelf: &[2],
+        sink: &[],
+        status: Status::ReadFault,
+        out: "",
+        held: None,
+    },
+    BuildCase {
+        shows: "a failing start of the new file",
+        words: UPGRADE,
+        shelf: &[3],
+        sink: &[],
+        status: Status::WriteFault,
+        out: "",
+        held: None,
+    },
+    BuildCase {
+        shows: "an upgrade that is written in part",
+        words: UPGRADE,
+        shelf: &[4],
+        sink: &[],
+        status: Status::WriteFault,
+        out: "",
+        held: Some(216),
+    },
+    BuildCase {
+        shows: "an upgrade",
+        words: UPGRADE,
+        shelf: &[5],
+        sink: &[],
+        status: Status::Done,
+        out: "upgraded 3 3 1 1 0\n",
+        held: Some(432),
+    },
+    BuildCase {
+        shows: "a failing start of a file that is upgraded in place",
+        words: UPGRADE_IN_PLACE,
+        shelf: &[3],
+        sink: &[],
+        status: Status::WriteFault,
+        out: "",
+        held: Some(416),
+    },
+    BuildCase {
+        shows: "an upgrade in place that is written in part",
+        words: UPGRADE_IN_PLACE,
+        shelf: &[4],
+        sink: &[],
+        status: Status::WriteFault,
+        out: "",
+        held: Some(216),
+    },
+    BuildCase {
+        shows: "an upgrade in place whose line is written in part",
+        words: UPGRADE_IN_PLACE,
+        shelf: &[],
+        sink: &[1],
+        status: Status::WriteFault,
+        out: "upgraded ",
+        held: Some(432),
+    },
 ];
 
-/// Whether a file is missing, or holds so many bytes of the triangle's image.
+/// Whether a file is missing, or holds so many bytes of the triangle's image, or of its file in form 1 where these are
+/// all.
 fn holds_front(alloc: Global, file: Option<&[u8]>, count: Option<usize>) -> Result<bool, Fail> {
     let image = bytes_of(alloc, &TRIANGLE_IMAGE)?;
+    let old = bytes_of(alloc, &OLD_TRIANGLE)?;
     Ok(match (file, count) {
         (None, None) => true,
+        (Some(bytes), Some(416)) => bytes == old.as_slice(),
         (Some(bytes), Some(count)) => bytes.len() == count && image.starts_with(bytes),
         _ => false,
     })
 }
 
-/// Whether a build of the triangle ends as it has to.
+/// Whether a build or an upgrade of the triangle ends as it has to.
 fn builds_well<L: Ledger>(
     alloc: Global,
     case: &BuildCase,
     steps: &mut Steps<L>,
 ) -> Result<bool, Fail> {
     let mut shelf = shelf_of(alloc, &TRIANGLE, case.shelf)?;
+    shelf.add("old.pemb", &bytes_of(alloc, &OLD_TRIANGLE)?)?;
     let mut out = MemorySink::new(alloc, case.sink);
-    let words = ["build", "maps", "map.pemb"];
-    let status = run_unasked(alloc, &words, &mut shelf, &mut out, steps)?;
-    let held = holds_front(alloc, shelf.file("map.pemb"), case.held)?;
+    let status = run_unasked(alloc, &case.words, &mut shelf, &mut out, steps)?;
+    let held = holds_front(alloc, shelf.file(case.words[2]), case.held)?;
     Ok(held && status == case.status && out.bytes() == case.out.as_bytes())
+}
+
+/// A dump of the triangle's file.
+const DUMP: [&str; 3] = ["dump", "old.pemb", "maps"];
+
+/// Whether the triangle's tables are written as they were, and built into its file again.
+fn dumps_well<L: Ledger>(alloc: Global, steps: &mut Steps<L>) -> Result<bool, Fail> {
+    let mut shelf = MemoryShelf::new(alloc, &[]);
+    shelf.add("old.pemb", &bytes_of(alloc, &OLD_TRIANGLE)?)?;
+    let mut out = MemorySink::new(alloc, &[]);
+    let dumped = run_unasked(alloc, &DUMP, &mut shelf, &mut out, steps)?;
+    let built = run_unasked(alloc, &BUILD, &mut shelf, &mut out, steps)?;
+    let told = b"dumped 3 3 1 1 0\nbuilt 3 3 1 1 0\n";
+    Ok(
+        dumped == Status::Done
+            && built == Status::Done
+            && out.bytes() == told.as_slice()
+            && shelf.file("maps/node.csv") == Some(TRIANGLE.nodes.as_bytes())
+            && shelf.file("maps/edge.csv") == Some(TRIANGLE.edges.as_bytes())
+            && shelf.file("maps/face.csv") == Some(b"face_id\n1\n".as_slice())
+            && shelf.file("maps/region.csv") == Some(b"region_id,parent\n".as_slice())
+            && shelf.file("maps/member.csv") == Some(b"region_id,face_id\n".as_slice())
+            && holds_front(alloc, shelf.file("map.pemb"), Some(432))?,
+    )
+}
+
+/// Whether a dump whose second table is written in part leaves the first one whole, and starts no third.
+fn dumps_in_part<L: Ledger>(alloc: Global, steps: &mut Steps<L>) -> Result<bool, Fail> {
+    let mut shelf = MemoryShelf::new(alloc, &[6]);
+    shelf.add("old.pemb", &bytes_of(alloc, &OLD_TRIANGLE)?)?;
+    let mut out = MemorySink::new(alloc, &[]);
+    let dumped = run_unasked(alloc, &DUMP, &mut shelf, &mut out, steps)?;
+    let held = match shelf.file("maps/edge.csv") {
+        Some(part) => {
+            part.len() < TRIANGLE.edges.len() && TRIANGLE.edges.as_bytes().starts_with(part)
+        }
+        None => false,
+    };
+    Ok(
+        held && dumped == Status::WriteFault
+            && out.bytes().is_empty()
+            && shelf.file("maps/node.csv") == Some(TRIANGLE.nodes.as_bytes())
+            && shelf.file("maps/face.csv").is_none(),
+    )
 }
 
 /// What the first build shows that doesn't end as it has to.
@@ -1276,6 +1409,12 @@ fn first_wrong_build<L: Ledger>(alloc: Global, blank: Blank) -> Result<Option<&'
         if !builds_well(alloc, case, &mut steps)? {
             return Ok(Some(case.shows));
         }
+    }
+    if !dumps_well(alloc, &mut steps)? {
+        return Ok(Some("tables that are dumped"));
+    }
+    if !dumps_in_part(alloc, &mut steps)? {
+        return Ok(Some("tables that are dumped in part"));
     }
     Ok(None)
 }
@@ -1708,17 +1847,162 @@ fn old_files_are_checked(rt: HostRuntime) -> Result<(), Fail> {
     Ok(())
 }
 
-/// Whether the island's file in form 1 is answered as its tables are.
+/// What words over the files of a shelf have to tell.
+#[derive(Clone, Copy)]
+struct Told {
+    words: &'static [&'static str],
+    status: Status,
+    out: &'static str,
+}
+
+/// Walks in the island's file and in that of a grid, an upgrade of that file, its tables, and words that are of no
+/// form.
+const TOLD: [Told; 17] = [
+    Told {
+        words: &["hops", "map.pemb", "0", "2"],
+        status: Status::Done,
+        out: "hops 0 2: 2 0 1 2\n",
+    },
+    Told {
+        words: &["hops", "map.pemb", "1", "1"],
+        status: Status::Done,
+        out: "hops 1 1: 0 1\n",
+    },
+    Told {
+        words: &["hops", "map.pemb", "0", "9"],
+        status: Status::Done,
+        out: "hops 0 9: unknown\n",
+    },
+    Told {
+        words: &["hops", "map.pemb", "9", "0"],
+        status: Status::Done,
+        out: "hops 9 0: unknown\n",
+    },
+    Told {
+        words: &["hops", "grid.pemb", "1", "16"],
+        status: Status::Done,
+        out: "hops 1 16: 2 1 0 16\n",
+    },
+    Told {
+        words: &["hops", "no.pemb", "1", "1"],
+        status: Status::Missing,
+        out: "missing no.pemb\n",
+    },
+    Told {
+        words: &["hops", "map.pemb", "0"],
+        status: Status::Usage,
+        out: "usage\n",
+    },
+    Told {
+        words: &["hops", "map.pemb", "0", "-1"],
+        status: Status::Usage,
+        out: "usage\n",
+    },
+    Told {
+        words: &["hops", "map.pemb", "00", "1"],
+        status: Status::Usage,
+        out: "usage\n",
+    },
+    Told {
+        words: &["hops", "", "0", "1"],
+        status: Status::Usage,
+        out: "usage\n",
+    },
+    Told {
+        words: &["hops", "map.pemb", "0", "1", "2"],
+        status: Status::Usage,
+        out: "usage\n",
+    },
+    Told {
+        words: &["upgrade", "map.pemb"],
+        status: Status::Usage,
+        out: "usage\n",
+    },
+    Told {
+        words: &["upgrade", "map.pemb", ""],
+        status: Status::Usage,
+        out: "usage\n",
+    },
+    Told {
+        words: &["upgrade", "no.pemb", "new.pemb"],
+        status: Status::Missing,
+        out: "missing no.pemb\n",
+    },
+    Told {
+        words: &["upgrade", "map.pemb", "new.pemb"],
+        status: Status::Done,
+        out: "upgraded 5 4 2 2 2\n",
+    },
+    Told {
+        words: &["dump", "map.pemb", ""],
+        status: Status::Usage,
+        out: "usage\n",
+    },
+    Told {
+        words: &["dump", "map.pemb", "maps"],
+        status: Status::Done,
+        out: "dumped 5 4 2 2 2\n",
+    },
+];
+
+/// Whether words over a shelf tell what they have to.
+fn tells_well<L: Ledger>(
+    alloc: Global,
+    told: &Told,
+    shelf: &mut MemoryShelf<'_>,
+    steps: &mut Steps<L>,
+) -> Result<bool, Fail> {
+    let mut out = MemorySink::new(alloc, &[]);
+    let status = run_unasked(alloc, told.words, shelf, &mut out, steps)?;
+    Ok(status == told.status && out.bytes() == told.out.as_bytes())
+}
+
+/// Whether all of these words tell what they have to.
+fn all_told_well<L: Ledger>(
+    alloc: Global,
+    all: &[Told],
+    shelf: &mut MemoryShelf<'_>,
+    steps: &mut Steps<L>,
+) -> Result<bool, Fail> {
+    for told in all {
+        if !tells_well(alloc, told, shelf, steps)? {
+            return Ok(false);
+        }
+    }
+    Ok(true)
+}
+
+/// A shelf that holds the island's file in form 1, and that of a grid.
+fn shelf_of_files(alloc: Global) -> Result<Option<MemoryShelf<'static>>, Fail> {
+    let mut shelf = MemoryShelf::new(alloc, &[]);
+    shelf.add("map.pemb", &bytes_of(alloc, &OLD_ISLE)?)?;
+    match grid_image(alloc, 4) {
+        Ok(image) => shelf.add("grid.pemb", &image)?,
+        Err(_) => return Ok(None),
+    }
+    Ok(Some(shelf))
+}
+
+/// Whether the island's file in form 1 is answered as its tables are, walked as it has to be, and answered the same once
+/// it is upgraded.
 fn answers_old_isle<L: Ledger>(alloc: Global, blank: Blank) -> Result<bool, Fail>
     requires name { blank.name ≡ L.name }
     requires parts { blank.parts ≡ L.parts }
     requires some { 0 < blank.parts }
 {
-    let mut shelf = MemoryShelf::new(alloc, &[]);
-    shelf.add("map.pemb", &bytes_of(alloc, &OLD_ISLE)?)?;
+    let Some(mut shelf) = shelf_of_files(alloc)? else {
+        return Ok(false);
+    };
     let mut steps = Steps::<L>::new(alloc, blank);
     let words = ["query", "map.pemb"];
-    answers_well(alloc, &words, &ISLE_WITH_REGIONS, &mut shelf, &mut steps)
+    let upgraded = ["query", "new.pemb"];
+    let dumped = ["ask", "maps"];
+    Ok(
+        answers_well(alloc, &words, &ISLE_WITH_REGIONS, &mut shelf, &mut steps)?
+            && all_told_well(alloc, &TOLD, &mut shelf, &mut steps)?
+            && answers_well(alloc, &upgraded, &ISLE_WITH_REGIONS, &mut shelf, &mut steps)?
+            && answers_well(alloc, &dumped, &ISLE_WITH_REGIONS, &mut shelf, &mut steps)?,
+    )
 }
 
 #[test]

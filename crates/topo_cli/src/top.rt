@@ -8,7 +8,9 @@ ghost use Rattle.topo_cli.specs.Words.{Form, form};
 
 use crate::command::{Command, command_of};
 use crate::counting::line_of_counts;
+use crate::dumping::{table_names, write_tables};
 use crate::files::write_file;
+use crate::hopping::hops_line;
 use crate::image::open_image;
 use crate::lines::{missing_text, refused_text, unlawful_text};
 use crate::load::{LoadFault, load_file, load_image};
@@ -16,10 +18,12 @@ use crate::serving::serve_script;
 use crate::status::Status;
 use crate::trial::{grid_image, trial_lines};
 use bit_words::Steps;
+use file_parts::upgraded;
 use pemb_file::open;
 use ports::{Failed, Shelf, Sink, Source};
 use std::alloc::Global;
 use std::sync::ledger::Ledger;
+use topo_base::FaceId;
 
 /// Writes the line of a status, and ends with that status.
 fn tell<K: Sink>(out: &mut K, line: &[u8], status: Status) -> Status
@@ -148,6 +152,101 @@ fn check_file<H: Shelf, K: Sink, L: Ledger>(
     }
 }
 
+/// Tells the shortest walk from one face of a file to another.
+fn hops<H: Shelf, K: Sink, L: Ledger>(
+    alloc: Global,
+    file: &str,
+    from: FaceId,
+    to: FaceId,
+    shelf: &mut H,
+    out: &mut K,
+    steps: &mut Steps<L>,
+) -> Status
+    ensures { (script : SourceCall) → IsIdle script → IsPromised (call_of (Some (Form.Hops file.now from.0 to.0))
+        (shelf_call H.files H.misses H.faults H.write_faults shelf.old shelf.new) script (sink_call K.held K.faults out.old out.new) steps.old steps.new) result }
+{
+    let bytes = match load_file(alloc, shelf, file) {
+        Ok(bytes) => bytes,
+        Err(why) => return end_loading(alloc, why, out),
+    };
+    let served = match open(&bytes, steps) {
+        Ok(served) => served,
+        Err(why) => return end_loading(alloc, LoadFault::Unlawful(why), out),
+    };
+    match hops_line(alloc, served, from, to, steps) {
+        Ok(line) => tell(out, &line, Status::Done),
+        Err(_) => Status::Memory,
+    }
+}
+
+/// Writes the file of form 2 that stands for the map of a file. All memory is taken before the first write.
+fn upgrade<H: Shelf, K: Sink, L: Ledger>(
+    alloc: Global,
+    old_file: &str,
+    new_file: &str,
+    shelf: &mut H,
+    out: &mut K,
+    steps: &mut Steps<L>,
+) -> Status
+    ensures { (script : SourceCall) → IsIdle script → IsPromised (call_of (Some (Form.Upgrade old_file.now new_file.now))
+        (shelf_call H.files H.misses H.faults H.write_faults shelf.old shelf.new) script (sink_call K.held K.faults out.old out.new) steps.old steps.new) result }
+{
+    let bytes = match load_file(alloc, shelf, old_file) {
+        Ok(bytes) => bytes,
+        Err(why) => return end_loading(alloc, why, out),
+    };
+    let served = match open(&bytes, steps) {
+        Ok(served) => served,
+        Err(why) => return end_loading(alloc, LoadFault::Unlawful(why), out),
+    };
+    let line = match line_of_counts(alloc, "upgraded", &served) {
+        Ok(line) => line,
+        Err(_) => return Status::Memory,
+    };
+    let image = match upgraded(alloc, served, steps) {
+        Ok(image) => image,
+        Err(_) => return Status::Memory,
+    };
+    match write_file(shelf, new_file, &image) {
+        Ok(()) => tell(out, &line, Status::Done),
+        Err(Failed) => Status::WriteFault,
+    }
+}
+
+/// Writes the tables of a file to a folder. All memory is taken before the first write.
+fn dump<H: Shelf, K: Sink, L: Ledger>(
+    alloc: Global,
+    file: &str,
+    dir: &str,
+    shelf: &mut H,
+    out: &mut K,
+    steps: &mut Steps<L>,
+) -> Status
+    ensures { (script : SourceCall) → IsIdle script → IsPromised (call_of (Some (Form.Dump file.now dir.now))
+        (shelf_call H.files H.misses H.faults H.write_faults shelf.old shelf.new) script (sink_call K.held K.faults out.old out.new) steps.old steps.new) result }
+{
+    let bytes = match load_file(alloc, shelf, file) {
+        Ok(bytes) => bytes,
+        Err(why) => return end_loading(alloc, why, out),
+    };
+    let served = match open(&bytes, steps) {
+        Ok(served) => served,
+        Err(why) => return end_loading(alloc, LoadFault::Unlawful(why), out),
+    };
+    let line = match line_of_counts(alloc, "dumped", &served) {
+        Ok(line) => line,
+        Err(_) => return Status::Memory,
+    };
+    let names = match table_names(alloc, dir) {
+        Ok(names) => names,
+        Err(_) => return Status::Memory,
+    };
+    match write_tables(served, dir, &names, shelf, steps) {
+        Ok(()) => tell(out, &line, Status::Done),
+        Err(Failed) => Status::WriteFault,
+    }
+}
+
 /// Tells the sums of the walks over a grid.
 fn trial<K: Sink, L: Ledger>(alloc: Global, size: u32, out: &mut K, steps: &mut Steps<L>) -> Status
     requires some { 1 ≤ size }
@@ -185,6 +284,9 @@ pub fn run<H: Shelf, S: Source, K: Sink, L: Ledger>(
         Some(Command::Query { file }) => query_file(alloc, file, shelf, script, out, steps),
         Some(Command::Check { file }) => check_file(alloc, file, shelf, out, steps),
         Some(Command::Trial { size }) => trial(alloc, size, out, steps),
+        Some(Command::Hops { file, from, to }) => hops(alloc, file, from, to, shelf, out, steps),
+        Some(Command::Upgrade { old, new }) => upgrade(alloc, old, new, shelf, out, steps),
+        Some(Command::Dump { file, dir }) => dump(alloc, file, dir, shelf, out, steps),
         None => tell(out, b"usage\n", Status::Usage),
     }
 }

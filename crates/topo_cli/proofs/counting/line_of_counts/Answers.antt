@@ -1,5 +1,5 @@
 use Rattle.std.specs.Prelude.{map, flat_map}
-use Rattle.std.proofs.Common.{◌≡◌, List, [], ◌∷◌, ◌++◌, ◌∙◌}
+use Rattle.std.proofs.Common.{◌≡◌, [], ◌∷◌, ◌++◌, ◌∙◌}
 use Rattle.topo_base.specs.Script.{Item, item_text}
 use Rattle.plane_model.specs.PlaneMap.{map_of}
 use Rattle.file_laws.specs.MapOfFile.{rows_of_contents}

@@ -1,4 +1,4 @@
-use Rattle.std.proofs.Common.{◌≡◌, ◌∙◌, ◌+◌, ◌≤◌, ap, sym, subst, refl, List, ℕ, arith, codes}
+use Rattle.std.proofs.Common.{◌≡◌, ◌∙◌, ◌+◌, ◌≤◌, ap, subst, refl, List, ℕ, arith, codes}
 use Rattle.plane_model.specs.PlaneMap.{PlaneMap, map_of}
 use Rattle.file_laws.specs.Lawful.{map_of_file}
 use Rattle.topo_cli.specs.declared.status.Status.TheVariants as status

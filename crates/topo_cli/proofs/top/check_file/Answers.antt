@@ -1,4 +1,4 @@
-use Rattle.std.proofs.Common.{◌≡◌, ◌∙◌, ap, subst, refl, List, ℕ, codes}
+use Rattle.std.proofs.Common.{◌∙◌, ap, subst, refl, List, ℕ, codes}
 use Rattle.file_laws.specs.Lawful.{map_of_file}
 use Rattle.file_laws.proofs.Sizes.{lawful_consistent, lawful_size}
 use Rattle.topo_cli.specs.declared.status.Status.TheVariants as status

@@ -1,9 +1,9 @@
-use Rattle.std.proofs.Common.{◌≡◌, ◌≤◌, refl, arith}
+use Rattle.std.proofs.Common.{refl, arith}
 use Rattle.file_laws.specs.Lawful.{map_of_file}
 use Rattle.file_laws.proofs.Sizes.{lawful_consistent, lawful_size}
 use Rattle.topo_cli.specs.Words.{Form}
 use Rattle.topo_cli.specs.declared.load.LoadFault.TheVariants as fault
-use Rattle.topo_cli.proofs.Built.{fits_query}
+use Rattle.topo_cli.proofs.Built.{fits_file}
 use Rattle.topo_cli.proofs.Loads.{file_lawful, file_unlawful}
 use Rattle.topo_cli.proofs.Opened.{cost_is, lawful_from, map_is}
 use Rattle.topo_cli.proofs.Served.{served_as}
@@ -14,7 +14,7 @@ pub returns-in-Err : goal.returns-in-Err
 returns-in-Err g c =
     not_loaded _ (Form.Query c.args.file.now) c.in-Err.why _
     (record { form = refl; unread = record { left = refl; faults = refl }; kept = c.in-Err.ensures.kept; counted = omega arith })
-    c.in-Err.ensures.ends (fits_query c.args.file.now _ c.in-Err.ensures.named) c.in-Err.ensures.shown c.end_loading.ensures
+    c.in-Err.ensures.ends (fits_file (Form.Query c.args.file.now) c.args.file.now _ tt tt refl c.in-Err.ensures.named) c.in-Err.ensures.shown c.end_loading.ensures
 
 pub returns-in-Ok-open : goal.returns-in-Ok-open
 returns-in-Ok-open g c =

@@ -14,3 +14,15 @@ pub returns-in-Some-Trial : goal.returns-in-Some-Trial
 returns-in-Some-Trial g c =
     of_form _ _ _ _ _ _ _ _ (rw c.in-Some-Trial.field-0-is at c.in-Some-Trial.ensures)
     (c.trial.ensures _ _ (record { files = refl; misses = refl; faults = refl; write_faults = refl }) (record { left = refl; faults = refl }))
+
+pub returns-in-Some-Hops : goal.returns-in-Some-Hops
+returns-in-Some-Hops g c =
+    of_form _ _ _ _ _ _ _ _ (rw c.in-Some-Hops.field-0-is at c.in-Some-Hops.ensures) (c.hops.ensures _ (record { left = refl; faults = refl }))
+
+pub returns-in-Some-Upgrade : goal.returns-in-Some-Upgrade
+returns-in-Some-Upgrade g c =
+    of_form _ _ _ _ _ _ _ _ (rw c.in-Some-Upgrade.field-0-is at c.in-Some-Upgrade.ensures) (c.upgrade.ensures _ (record { left = refl; faults = refl }))
+
+pub returns-in-Some-Dump : goal.returns-in-Some-Dump
+returns-in-Some-Dump g c =
+    of_form _ _ _ _ _ _ _ _ (rw c.in-Some-Dump.field-0-is at c.in-Some-Dump.ensures) (c.dump.ensures _ (record { left = refl; faults = refl }))

@@ -1,4 +1,4 @@
-use Rattle.std.proofs.Common.{◌≡◌, ◌∙◌, sym, subst, IsTrue}
+use Rattle.std.proofs.Common.{subst, IsTrue}
 use Rattle.plane_model.specs.Rows.{Rows}
 use Rattle.plane_model.specs.Faults.{first_fault}
 use Rattle.plane_model.specs.InRange.{is_in_range}
