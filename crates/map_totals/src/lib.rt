@@ -13,6 +13,8 @@ pub use whole::totals;
 #[cfg(test)]
 mod early_close;
 #[cfg(test)]
+mod hop_counts;
+#[cfg(test)]
 mod in_turn;
 #[cfg(test)]
 mod long_walks;
