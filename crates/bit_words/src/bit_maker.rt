@@ -1,3 +1,5 @@
+//! Bits put one after another into words.
+
 use crate::memory::Memory;
 use crate::packed_maker::PackedMaker;
 use std::alloc::Global;

@@ -1,3 +1,5 @@
+//! Bits as they are read from words.
+
 ghost use Rattle.std.specs.Prelude.{◌*◌, ◌≤◌, length};
 ghost use Rattle.bit_words.specs.WordView.{words_of};
 

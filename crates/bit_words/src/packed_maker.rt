@@ -1,3 +1,5 @@
+//! Numbers of one width put one after another into words.
+
 ghost use Rattle.std.specs.Prelude.{◌≡◌, ◌<◌, ◌≤◌, ◌+◌, ◌*◌, ◌/◌, ◌^◌, length, OnOk, OnErr, [], ◌∷◌, ◌++◌, slice_index};
 ghost use Rattle.bit_words.specs.Bits.{stream};
 

@@ -1,3 +1,5 @@
+//! The counter of the words that are read.
+
 use std::alloc::Global;
 use std::marker::Model;
 use std::sync::ledger::{Blank, Book, Ledger, Share};

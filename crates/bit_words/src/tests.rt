@@ -1,3 +1,5 @@
+//! Words, bits and packed numbers, made, read and searched.
+
 ghost use Rattle.std.specs.Prelude.{◌≡◌, ◌<◌};
 
 use crate::byte::{byte_from, excess_of_byte, least_of_byte};

@@ -1,3 +1,5 @@
+//! Bytes as words.
+
 ghost use Rattle.std.specs.Prelude.{◌≡◌, ◌%◌, length};
 
 use crate::steps::Steps;

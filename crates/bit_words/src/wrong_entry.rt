@@ -1,3 +1,5 @@
+//! What a check of a table of numbers finds.
+
 /// An entry of a table of numbers that is not what it should be.
 #[derive(Clone, Copy, Debug, PartialEq, Eq)]
 pub struct WrongEntry {

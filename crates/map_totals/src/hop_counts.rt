@@ -34,7 +34,8 @@ fn from_border(cell: u32) -> u32 {
     row.min(29 - row).min(column.min(29 - column))
 }
 
-/// How many moves lead from a cell of that grid to cell 437, in row 14 and column 16: by rows and columns, or over face 0.
+/// How many moves lead from a cell of that grid to cell 437, whose row and column are 14 and 16: by rows and columns, or
+/// over face 0.
 fn cell_moves(cell: u32) -> u32 {
     let (row, column) = ((cell - 1) / 30, (cell - 1) % 30);
     let inside = row.abs_diff(14) + column.abs_diff(16);

@@ -1,3 +1,5 @@
+//! The words of the tree, made of bits.
+
 ghost use Rattle.std.specs.Prelude.{◌≡◌, ◌<◌, ◌≤◌, ◌+◌, ◌*◌, [], ◌∷◌, ◌++◌, length, min, OnOk, OnErr, IfOk};
 ghost use Rattle.min_max_tree.specs.Tree.{size_at, start_at, node_from, node_to, nodes_of};
 ghost use Rattle.min_max_tree.specs.Node.{IsRun};

@@ -1,3 +1,5 @@
+//! Levels of the tree: their heights, and where their nodes stand.
+
 /// The nodes of one height.
 #[derive(Clone, Copy)]
 pub(crate) struct Level {

@@ -1,3 +1,5 @@
+//! Nodes of the tree, as what they say and as words.
+
 /// What some bits sum to, and the least that a front of them sums to, both plus 2 ^ 31,
 /// where a one counts +1 and a zero -1.
 #[derive(Clone, Copy)]

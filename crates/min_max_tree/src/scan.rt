@@ -1,3 +1,5 @@
+//! The nearest fall of the excess without the tree, word by word.
+
 ghost use Rattle.std.specs.Prelude.{pos, ◌-ℤ◌, ◌≡◌, ◌≤◌, ◌+◌, ◌-◌, ◌*◌, ◌/◌, ◌%◌, true, length};
 ghost use Rattle.bit_words.specs.Bits.{excess, rank, word_bits, IsNext, IsLast};
 ghost use Rattle.bit_words.specs.BitView.{bits_of};

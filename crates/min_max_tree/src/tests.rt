@@ -1,3 +1,5 @@
+//! Trees of bits of several patterns and lengths, searched and compared with plain counting.
+
 ghost use Rattle.std.specs.Prelude.{◌≡◌, ◌<◌, ◌≤◌, length};
 ghost use Rattle.min_max_tree.specs.MinMaxView.{searched};
 

@@ -1,3 +1,5 @@
+//! The nearest fall of the excess by the tree.
+
 ghost use Rattle.std.specs.Prelude.{◌≡◌, ◌≤◌, length};
 ghost use Rattle.bit_words.specs.BitView.{bits_of};
 ghost use Rattle.bit_words.specs.WordView.{words_of};

@@ -1,3 +1,5 @@
+//! How many words the tree has, and the check of words that may be no tree.
+
 ghost use Rattle.std.specs.Prelude.{◌≡◌, ◌<◌, ◌≤◌, ◌+◌, ◌*◌, ◌-◌, length, MatchResult};
 ghost use Rattle.bit_words.specs.BitView.{bits_of};
 ghost use Rattle.bit_words.specs.WordView.{words_of};

@@ -1,3 +1,5 @@
+//! The check whether bits are balanced.
+
 ghost use Rattle.std.specs.Prelude.{◌≡◌, ◌≤◌, ◌+◌, ◌-◌, length, MatchResult, Some, IsTrue};
 ghost use Rattle.bit_words.specs.BitView.{bits_of};
 ghost use Rattle.parens.specs.Matching.{balance_fault, is_balanced};

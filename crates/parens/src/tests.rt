@@ -1,3 +1,5 @@
+//! Pairs of small, deep, long and mixed parentheses.
+
 ghost use Rattle.std.specs.Prelude.{◌≡◌, ◌<◌, ◌≤◌, length, IfSome};
 ghost use Rattle.bit_words.specs.BitView.{bits_of as view_bits};
 ghost use Rattle.parens.specs.ParenView.{parens_of};

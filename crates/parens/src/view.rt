@@ -1,3 +1,5 @@
+//! Balanced parentheses that are asked for their pairs.
+
 ghost use Rattle.std.specs.Prelude.{◌≡◌, ◌≤◌, length, IsTrue};
 ghost use Rattle.rank_select.specs.RankView.{counted};
 ghost use Rattle.min_max_tree.specs.MinMaxView.{searched};

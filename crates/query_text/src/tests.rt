@@ -1,3 +1,5 @@
+//! Lines of each form and of none, and the printed items.
+
 use crate::{Query, head, node_item, number_item, read_line, signed_item};
 use std::test::Fail;
 use topo_base::{FaceId, IdNumber, NodeId, Signed, SignedNumber};

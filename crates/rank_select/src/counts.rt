@@ -1,3 +1,5 @@
+//! Counts in the words of a directory, and the check of a directory.
+
 ghost use Rattle.std.specs.Prelude.{slice_index, ◌<◌, ◌≡◌, ◌+◌, ◌-◌, ◌*◌, ◌/◌, ◌≤◌, length, true, MatchResult};
 ghost use Rattle.bit_words.specs.Bits.{rank};
 ghost use Rattle.bit_words.specs.BitView.{bits_of};

@@ -1,3 +1,5 @@
+//! The directory of counts, made of bits.
+
 ghost use Rattle.std.specs.Prelude.{◌≡◌, ◌+◌, ◌*◌, ◌/◌, ◌≤◌, true, length, IfOk};
 ghost use Rattle.bit_words.specs.Bits.{rank};
 ghost use Rattle.rank_select.specs.Counts.{counts_of};

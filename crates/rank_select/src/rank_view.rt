@@ -1,3 +1,5 @@
+//! Bits with their directory, asked for counts and places.
+
 ghost use Rattle.std.specs.Prelude.{◌≡◌, ◌<◌, ◌≤◌, length, true, Some};
 ghost use Rattle.bit_words.specs.Bits.{rank, word_bits, IsSelected};
 ghost use Rattle.bit_words.specs.BitView.{bits_of};

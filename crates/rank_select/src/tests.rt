@@ -1,3 +1,5 @@
+//! Counts and places of bits of several patterns and lengths, compared with plain counting.
+
 ghost use Rattle.std.specs.Prelude.{◌≡◌, ◌<◌, ◌≤◌, length};
 
 use crate::{RankView, check_counts, make_counts};

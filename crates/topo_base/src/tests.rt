@@ -1,3 +1,5 @@
+//! Spelled numbers, and signed edges and their order.
+
 use crate::{EdgeId, Signed, read_id, read_positive, read_signed};
 use std::test::Fail;
 

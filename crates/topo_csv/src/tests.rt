@@ -1,3 +1,5 @@
+//! Tables that are read, and the first wrong row of those that are not.
+
 mod cut_tables;
 
 use crate::{CsvFault, read_edges, read_faces, read_members, read_nodes, read_regions};

@@ -1,3 +1,5 @@
+//! The words of a code, made of a walk.
+
 ghost use Rattle.std.specs.Prelude.{◌≡◌, ◌≤◌, length, IfOk, Bool};
 ghost use Rattle.bit_words.specs.Packed.{PackedList};
 ghost use Rattle.code_laws.specs.Tour.{picked, code_of};

@@ -1,3 +1,5 @@
+//! Ones between two places, without a directory.
+
 ghost use Rattle.std.specs.Prelude.{◌≡◌, ◌≤◌, ◌+◌, ◌-◌, ◌*◌, ◌/◌, true, length};
 ghost use Rattle.bit_words.specs.Bits.{rank};
 ghost use Rattle.bit_words.specs.BitView.{bits_of};

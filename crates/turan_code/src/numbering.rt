@@ -1,3 +1,5 @@
+//! The numbers of a code at all its positions, by reading it once with two stacks.
+
 ghost use Rattle.std.specs.Prelude.{◌≡◌, ◌<◌, ◌≤◌, ◌+◌, ◌⊎◌, true, false, [], ◌∷◌, ◌++◌, length, filter, IfOk, OnOk, IsTrue};
 ghost use Rattle.code_laws.specs.Code.{component_of, component_count};
 ghost use Rattle.code_laws.specs.Numbers.{tree_edges, edge_of, node_of, ring_of};

@@ -1,3 +1,5 @@
+//! Three sequences and the starts of components, and what is wrong with them.
+
 use crate::count::ones_between;
 use bit_words::{BitView, PackedView, Steps};
 use parens::check_balanced;

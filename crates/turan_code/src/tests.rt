@@ -1,3 +1,5 @@
+//! Codes of small maps and of a long random walk, and the faults of sequences.
+
 ghost use Rattle.std.specs.Prelude.{◌≡◌, ◌<◌, ◌≤◌, length};
 ghost use Rattle.turan_code.specs.TuranView.{code_of_view};
 

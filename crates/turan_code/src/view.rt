@@ -1,3 +1,5 @@
+//! A sound code that is asked for mates, steps and numbers.
+
 ghost use Rattle.std.specs.Prelude.{◌≡◌, ◌≤◌, length, IsTrue};
 ghost use Rattle.rank_select.specs.RankView.{counted};
 ghost use Rattle.parens.specs.ParenView.{parens_of};

@@ -1,3 +1,5 @@
+//! A code and its directories as bytes, and views over them.
+
 ghost use Rattle.std.specs.Prelude.{◌≡◌, ◌≤◌, ◌/◌, filter, length, IfOk, IfSome, IsTrue};
 ghost use Rattle.bit_words.specs.Words.{words_in};
 ghost use Rattle.bit_words.specs.Bits.{same, bits_in};

@@ -1,3 +1,5 @@
+//! Random walks, and their codes read with stacks.
+
 ghost use Rattle.std.specs.Prelude.{◌≤◌, length};
 
 use crate::tests::image::Walk;
