@@ -2,7 +2,7 @@
 use Rattle.std.specs.Prelude.{ℕ, List}
 use Rattle.id_names.specs.RisingNames.{RisingNames, ids_by_number}
 use Rattle.id_names.specs.PartViews.{names_over}
-use Rattle.id_names.specs.declared.names_view.NamesView.{NamesView}
+use Rattle.id_names.specs.declared.view.NamesView.{NamesView}
 
 -- the names that a view stands for
 abbrev pub names_in : NamesView → RisingNames

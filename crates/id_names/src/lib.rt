@@ -5,27 +5,27 @@
 //! on long cycles and a pointer back from each, so that few places are read.
 #![tactic(auto)]
 
+mod checking;
 mod cycles;
 mod fault;
 mod inverse;
 pub mod laws;
 pub mod made;
+mod making;
 mod name_parts;
-mod name_words;
-mod names_view;
 mod packing;
 mod place_words;
 mod rising_ids;
 mod rising_words;
 mod sorted;
-mod verify;
+mod view;
 pub mod worked;
 
+pub use checking::check;
 pub use fault::NameFault;
+pub use making::{NameWords, make};
 pub use name_parts::NameParts;
-pub use name_words::{NameWords, make};
-pub use names_view::NamesView;
-pub use verify::check;
+pub use view::NamesView;
 
 #[cfg(test)]
 mod tests;

@@ -21,8 +21,8 @@ use Rattle.plane_model.proofs.AllFaults.{none-first_fault, true_from, None_from}
 use Rattle.plane_model.proofs.Alone.{euler-alone, plane-alone, first-euler, first-placement, first-region}
 use Rattle.plane_model.proofs.RotationFaults.{none-rotation_fault}
 use Rattle.rotation_check.specs.Checked.{Names}
-use Rattle.rotation_check.specs.declared.checks.CheckFault.{CheckFault}
-use Rattle.rotation_check.specs.declared.checks.CheckFault.TheVariants as check
+use Rattle.rotation_check.specs.declared.checking.CheckFault.{CheckFault}
+use Rattle.rotation_check.specs.declared.checking.CheckFault.TheVariants as check
 use Rattle.rotation_check.specs.Darts.{RotationRows, map_of_rotation, rotation_rows}
 use Rattle.euler_check.specs.Parts.{parts_fault}
 use Rattle.islands.specs.Darts.{AreDartsOf}

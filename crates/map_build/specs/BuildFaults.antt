@@ -1,8 +1,8 @@
 -- What a fault of a build says.
 use Rattle.std.specs.Prelude.{◌≡◌, Option, Some, ⊤}
 use Rattle.topo_base.specs.declared.refusal.Refusal.{Refusal}
-use Rattle.rotation_check.specs.declared.checks.CheckFault.{CheckFault}
-use Rattle.rotation_check.specs.declared.checks.CheckFault.TheVariants as check
+use Rattle.rotation_check.specs.declared.checking.CheckFault.{CheckFault}
+use Rattle.rotation_check.specs.declared.checking.CheckFault.TheVariants as check
 use Rattle.map_build.specs.declared.fault.BuildFault.{BuildFault}
 use Rattle.map_build.specs.declared.fault.BuildFault.TheVariants as build
 

@@ -11,9 +11,9 @@ use Rattle.min_max_tree.specs.SearchBack.{WasAbove, Leaves, Remains, IsSpotBack,
 use Rattle.min_max_tree.specs.Tree.{span_at, size_at, node_from, node_to, least, total_of, least_of}
 use Rattle.min_max_tree.specs.Level.{IsLevel}
 use Rattle.min_max_tree.specs.declared.level.Level.{Level}
-use Rattle.min_max_tree.specs.declared.tree.Spot.{Spot}
-use Rattle.min_max_tree.specs.declared.tree.Side.{Side}
-use Rattle.min_max_tree.specs.declared.tree.Side.TheVariants.{Reached, Passed}
+use Rattle.min_max_tree.specs.declared.view.Spot.{Spot}
+use Rattle.min_max_tree.specs.declared.view.Side.{Side}
+use Rattle.min_max_tree.specs.declared.view.Side.TheVariants.{Reached, Passed}
 use Rattle.min_max_tree.proofs.Falls.{slope, slope-up, excess-step-up, excess-ranks, chunk-excess}
 use Rattle.min_max_tree.proofs.Nodes.{next-from, node-order, left-from, right-to, left-there, only-left, least-le, least-above}
 use Rattle.min_max_tree.proofs.Combine.{total-up, least-up, least-up_only}

@@ -12,9 +12,9 @@ use Rattle.min_max_tree.specs.Search.{StaysAbove, Rests, Reaches}
 use Rattle.min_max_tree.specs.Tree.{span_at, size_at, node_from, node_to, least, least_of}
 use Rattle.min_max_tree.specs.Level.{IsLevel, IsSpot, LeadsTo, Passes, Sibling}
 use Rattle.min_max_tree.specs.declared.level.Level.{Level}
-use Rattle.min_max_tree.specs.declared.tree.Spot.{Spot}
-use Rattle.min_max_tree.specs.declared.tree.Side.{Side}
-use Rattle.min_max_tree.specs.declared.tree.Side.TheVariants.{Reached, Passed}
+use Rattle.min_max_tree.specs.declared.view.Spot.{Spot}
+use Rattle.min_max_tree.specs.declared.view.Side.{Side}
+use Rattle.min_max_tree.specs.declared.view.Side.TheVariants.{Reached, Passed}
 use Rattle.min_max_tree.proofs.Falls.{rests_none, join_rests, join_found, slope}
 use Rattle.min_max_tree.proofs.Nodes.{there-node, parent-end_odd, parent-end_pair, parent-end_last, next-from, node-order, left-from, right-to, left-there, only-left, least-above, least-rest, size-up}
 use Rattle.min_max_tree.proofs.Levels.{size-le, span-zero}

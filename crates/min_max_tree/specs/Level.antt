@@ -4,9 +4,9 @@ use Rattle.bit_words.specs.Bits.{excess}
 use Rattle.min_max_tree.specs.Search.{Rests}
 use Rattle.min_max_tree.specs.Tree.{span_at, size_at, start_at, node_from, node_to, least_of}
 use Rattle.min_max_tree.specs.declared.level.Level.{Level}
-use Rattle.min_max_tree.specs.declared.tree.Spot.{Spot}
-use Rattle.min_max_tree.specs.declared.tree.Side.{Side}
-use Rattle.min_max_tree.specs.declared.tree.Side.TheVariants.{Reached, Passed}
+use Rattle.min_max_tree.specs.declared.view.Spot.{Spot}
+use Rattle.min_max_tree.specs.declared.view.Side.{Side}
+use Rattle.min_max_tree.specs.declared.view.Side.TheVariants.{Reached, Passed}
 
 -- a level of the tree over so many bits
 pub record IsLevel (len : ℕ) (level : Level) : Type 0 where

@@ -5,9 +5,9 @@ use Rattle.min_max_tree.specs.Tree.{size_at, node_from, node_to, total_of, least
 use Rattle.min_max_tree.specs.Level.{IsLevel}
 use Rattle.min_max_tree.specs.declared.scan.Scan.{Scan}
 use Rattle.min_max_tree.specs.declared.scan.Scan.TheVariants.{Found, Above}
-use Rattle.min_max_tree.specs.declared.tree.Spot.{Spot}
-use Rattle.min_max_tree.specs.declared.tree.Side.{Side}
-use Rattle.min_max_tree.specs.declared.tree.Side.TheVariants.{Reached, Passed}
+use Rattle.min_max_tree.specs.declared.view.Spot.{Spot}
+use Rattle.min_max_tree.specs.declared.view.Side.{Side}
+use Rattle.min_max_tree.specs.declared.view.Side.TheVariants.{Reached, Passed}
 
 -- the excess is above t from place low to before place high
 pub record WasAbove (bits : List Bool) (t : ℤ) (low high : ℕ) : Type 0 where

@@ -5,17 +5,17 @@
 //! front of them sums to in the high 32, both in two's complement.
 #![tactic(auto)]
 
-mod build;
+mod checking;
 mod level;
+mod making;
 mod node;
 mod scan;
-mod tree;
-mod verify;
+mod view;
 
-pub use build::make;
+pub use checking::{check, node_count};
+pub use making::make;
 pub use scan::{Scan, scan_bits};
-pub use tree::MinMaxView;
-pub use verify::{check, node_count};
+pub use view::MinMaxView;
 
 #[cfg(test)]
 mod tests;

@@ -4,10 +4,10 @@
 //! common pairs are found by searches for the nearest place where it has fallen.
 #![tactic(auto)]
 
-mod check;
+mod checking;
 mod view;
 
-pub use check::check_balanced;
+pub use checking::check_balanced;
 pub use view::ParenView;
 
 #[cfg(test)]

@@ -7,7 +7,7 @@ use Rattle.id_names.specs.Names.{AreDistinctIds}
 use Rattle.id_names.specs.RisingNames.{ids_by_number}
 use Rattle.id_names.specs.Faults.{name_fault}
 use Rattle.id_names.specs.Making.{HoldsFields, place_width}
-use Rattle.id_names.specs.declared.name_words.NameWords.{NameWords}
+use Rattle.id_names.specs.declared.making.NameWords.{NameWords}
 use Rattle.file_laws.specs.Layout.{HeaderCounts, id_bits, low_width}
 use Rattle.file_laws.specs.Contents.{Contents}
 use Rattle.file_laws.specs.Faults.{magic}

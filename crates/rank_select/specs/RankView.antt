@@ -1,7 +1,7 @@
 -- The bits that a view counts.
 use Rattle.std.specs.Prelude.{Bool, List}
 use Rattle.bit_words.specs.BitView.{bits_of}
-use Rattle.rank_select.specs.declared.rank_view.RankView.{RankView}
+use Rattle.rank_select.specs.declared.view.RankView.{RankView}
 
 -- the bits that a view counts
 abbrev pub counted : RankView → List Bool

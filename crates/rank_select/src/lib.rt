@@ -5,13 +5,14 @@
 //! share suggests, outward by strides that double, and then by halving.
 #![tactic(auto)]
 
+mod checking;
 mod counts;
-mod make;
-mod rank_view;
+mod making;
+mod view;
 
-pub use counts::check_counts;
-pub use make::make_counts;
-pub use rank_view::RankView;
+pub use checking::check_counts;
+pub use making::make_counts;
+pub use view::RankView;
 
 #[cfg(test)]
 mod tests;

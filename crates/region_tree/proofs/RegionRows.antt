@@ -21,8 +21,8 @@ use Rattle.plane_model.proofs.Pairs.{twice_in_sorted}
 use Rattle.plane_model.proofs.FaultParts.{none-id_twice}
 use Rattle.bit_words.proofs.Finds.{least-find}
 use Rattle.rotation_check.specs.Checked.{Names}
-use Rattle.rotation_check.specs.declared.checks.CheckFault.{CheckFault}
-use Rattle.rotation_check.specs.declared.checks.CheckFault.TheVariants as fault
+use Rattle.rotation_check.specs.declared.checking.CheckFault.{CheckFault}
+use Rattle.rotation_check.specs.declared.checking.CheckFault.TheVariants as fault
 use Rattle.region_tree.specs.Ancestors.{parent_at, comes_back}
 use Rattle.region_tree.specs.ByPlace.{AreByPlace}
 use Rattle.region_tree.specs.Checked.{missing_parent, nesting_fault}

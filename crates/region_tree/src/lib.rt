@@ -2,11 +2,11 @@
 //! members, and seen as a view that answers which regions enclose a face.
 #![tactic(auto)]
 
-mod building;
-mod checks;
+mod checking;
 mod cycles;
 mod faces;
 pub mod laws;
+mod making;
 mod members;
 mod numbering;
 mod parents;
@@ -16,7 +16,7 @@ mod siblings;
 mod view;
 mod walk;
 
-pub use building::build;
+pub use making::build;
 pub use parts::{MemberPlace, RegionParts};
 pub use view::RegionView;
 

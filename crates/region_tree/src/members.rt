@@ -12,7 +12,7 @@ ghost use Rattle.region_tree.specs.Checked.{member_fault, missing_face, missing_
 ghost use Rattle.region_tree.specs.MemberPlaces.{AreMemberPlaces, IsMemberPlace};
 ghost use Rattle.region_tree.specs.Tables.{region_map, region_tables};
 
-use crate::checks::refuse;
+use crate::checking::refuse;
 use crate::faces::FaceIndex;
 use crate::parts::MemberPlace;
 use crate::rows::{has_id, place_of};

@@ -8,7 +8,7 @@ ghost use Rattle.region_tree.specs.MemberPlaces.{AreNumbersOf};
 ghost use Rattle.region_tree.specs.Parts.{member_places, region_bits, region_ids};
 ghost use Rattle.region_tree.specs.Ready.{IsReady};
 
-use crate::checks::Hierarchy;
+use crate::checking::Hierarchy;
 use crate::members::{member_places, rows_by_face};
 use crate::parts::RegionParts;
 use crate::siblings::{link, slots};

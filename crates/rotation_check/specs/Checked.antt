@@ -5,8 +5,8 @@ use Rattle.topo_base.specs.declared.refusal.Table.TheVariants as table
 use Rattle.plane_model.specs.Rows.{Rows}
 use Rattle.plane_model.specs.PlaneMap.{map_of}
 use Rattle.plane_model.specs.Faults.{first_of, first_in, id_twice, no_node, no_edge_row, no_face, no_containing_face, either_way, wrong_end, next_twice, split_node, node_with_face}
-use Rattle.rotation_check.specs.declared.checks.CheckFault.{CheckFault}
-use Rattle.rotation_check.specs.declared.checks.CheckFault.TheVariants as fault
+use Rattle.rotation_check.specs.declared.checking.CheckFault.{CheckFault}
+use Rattle.rotation_check.specs.declared.checking.CheckFault.TheVariants as fault
 
 -- the first fault, or want of memory
 abbrev pub Names : CheckFault → Option Refusal → Type 0

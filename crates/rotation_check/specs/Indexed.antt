@@ -1,9 +1,9 @@
 -- The rows of tables by their ids.
 use Rattle.std.specs.Prelude.{map}
 use Rattle.id_index.specs.Index.{IsIndex}
-use Rattle.rotation_check.specs.declared.nodes.NodeIndex.{NodeIndex}
-use Rattle.rotation_check.specs.declared.nexts.EdgeIndex.{EdgeIndex}
-use Rattle.rotation_check.specs.declared.faces.FaceIndex.{FaceIndex}
+use Rattle.rotation_check.specs.declared.missing_nodes.NodeIndex.{NodeIndex}
+use Rattle.rotation_check.specs.declared.missing_edges.EdgeIndex.{EdgeIndex}
+use Rattle.rotation_check.specs.declared.missing_faces.FaceIndex.{FaceIndex}
 
 -- the rows of nodes
 abbrev pub IsNodeIndex : NodeIndex → Type 0

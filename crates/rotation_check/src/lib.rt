@@ -1,23 +1,19 @@
 //! Whether tables are a rotation system, and the rotation of those that are.
 #![tactic(auto)]
 
-mod alone;
-pub mod checks;
+pub mod checking;
 mod counts;
 mod darts;
-mod ends;
-mod faces;
-mod ids;
-mod nexts;
-mod nodes;
+mod missing_edges;
+mod missing_faces;
+mod missing_nodes;
+mod repeated_ids;
 pub mod rotation;
-mod rounds;
 mod signed;
 #[cfg(test)]
 mod tests;
-mod twice;
 
-pub use checks::{CheckFault, check};
+pub use checking::{CheckFault, check};
 pub use darts::reversed;
-pub use ids::node_ids;
+pub use repeated_ids::node_ids;
 pub use rotation::Rotation;

@@ -11,7 +11,7 @@ use Rattle.code_laws.specs.Numbers.{first_of_edge}
 use Rattle.id_names.specs.Names.{AreDistinctIds, number_of}
 use Rattle.id_names.specs.RisingNames.{id_at}
 use Rattle.id_names.specs.Views.{ids_of, names_in}
-use Rattle.id_names.specs.declared.names_view.NamesView.{NamesView}
+use Rattle.id_names.specs.declared.view.NamesView.{NamesView}
 use Rattle.id_names.proofs.NameLaws.{length-ids}
 use Rattle.id_names.proofs.NumberLaws.{number_of-at}
 use Rattle.region_tree.specs.Nesting.{region_at}

@@ -5,7 +5,7 @@ use Rattle.bit_words.specs.Words.{words_in}
 use Rattle.bit_words.proofs.Streams.{bits_in-held}
 use Rattle.code_laws.specs.Code.{code_with}
 use Rattle.code_laws.specs.Tour.{picked, code_of}
-use Rattle.turan_code.specs.declared.code_words.CodeWords.{CodeWords}
+use Rattle.turan_code.specs.declared.making.CodeWords.{CodeWords}
 use Rattle.code_laws.proofs.Walked.{length-picked}
 use Rattle.turan_code.specs.CodeWords.{AreWordsOf}
 use Rattle.turan_code.proofs.Picked.{kind_ranked}

@@ -5,7 +5,7 @@ use Rattle.bit_words.specs.Packed.{Packs}
 use Rattle.rank_select.specs.Counts.{counts_of}
 use Rattle.min_max_tree.specs.Tree.{nodes_of}
 use Rattle.code_laws.specs.Code.{Code}
-use Rattle.turan_code.specs.declared.code_words.CodeWords.{CodeWords}
+use Rattle.turan_code.specs.declared.making.CodeWords.{CodeWords}
 
 -- these words hold these numbers, by 32 bits each, and no other bit is 1
 pub record HoldsFields (words items : List ℕ) : Type 0 where

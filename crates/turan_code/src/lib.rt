@@ -3,17 +3,17 @@
 //! bound on the words that each call reads.
 #![tactic(auto)]
 
-mod code_words;
+mod checking;
 mod count;
+mod making;
 mod numbering;
 mod sequences;
-mod verify;
 mod view;
 
+pub use checking::check;
 pub use code_laws::{RingNumber, SeqFault};
-pub use code_words::{CodeWords, make};
+pub use making::{CodeWords, make};
 pub use numbering::{Numbering, number};
-pub use verify::check;
 pub use view::{TuranParts, TuranView};
 
 #[cfg(test)]
