@@ -19,6 +19,7 @@ mod rising_ids;
 mod rising_words;
 mod sorted;
 mod verify;
+mod ways;
 pub mod worked;
 
 pub use fault::NameFault;
