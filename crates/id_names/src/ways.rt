@@ -4,7 +4,7 @@
 //! one points back, and those in a short cycle without a mark. No place is counted twice, so where as many are counted
 //! as there are numbers, no place is missing, and no two numbers have one place.
 
-ghost use Rattle.std.specs.Prelude.{◌≡◌, ◌<◌, ◌≤◌, ◌+◌, ◌*◌, length, true, IfSome, None, slice_index_or};
+ghost use Rattle.std.specs.Prelude.{◌≡◌, ◌<◌, ◌≤◌, ◌+◌, ◌*◌, length, true, false, IfSome, None, slice_index_or};
 ghost use Rattle.bit_words.specs.Digits.{digits};
 ghost use Rattle.bit_words.specs.PackedView.{fields_of};
 ghost use Rattle.rank_select.specs.RankView.{counted};
@@ -19,8 +19,8 @@ use std::sync::ledger::Ledger;
 
 /// What a marked number points back to.
 fn pointer<C: Ledger>(inverse: Inverse<'_>, number: usize, steps: &mut Steps<C>) -> usize
-    requires within { number < length (fields_of inverse.entry.places) }
-    requires marked { slice_index_or (counted inverse.entry.marks) number false ≡ true }
+    requires within { number < length (fields_of inverse.places) }
+    requires marked { slice_index_or (counted inverse.marks) number false ≡ true }
     ensures pointer { result ≡ back_from (counted inverse.entry.marks) (fields_of inverse.entry.back) number }
     ensures grows { steps.old ≤ steps.new }
     ensures cost { steps.new ≤ steps.old + 11 }
@@ -32,7 +32,7 @@ fn pointer<C: Ledger>(inverse: Inverse<'_>, number: usize, steps: &mut Steps<C>)
 /// How many steps lead from a mark to the next one. 0 where the number is no mark, None where the next one points back
 /// to another number, or is too far away.
 fn way<C: Ledger>(inverse: Inverse<'_>, mark: usize, steps: &mut Steps<C>) -> Option<usize>
-    requires within { mark < length (fields_of inverse.entry.places) }
+    requires within { mark < length (fields_of inverse.places) }
     ensures way { IfSome result (λ count. 1 ≤ count → IsWay (fields_of inverse.entry.places) (counted inverse.entry.marks) (fields_of inverse.entry.back) mark count) }
     ensures few { IfSome result (λ count. count ≤ 64) }
     ensures grows { steps.old ≤ steps.new }
@@ -61,7 +61,7 @@ fn way<C: Ledger>(inverse: Inverse<'_>, mark: usize, steps: &mut Steps<C>) -> Op
 /// How many numbers are in the cycle of one without a mark, whose least it is. 0 where a mark or a smaller number is on
 /// the cycle, None where neither comes soon.
 fn short_cycle<C: Ledger>(inverse: Inverse<'_>, least: usize, steps: &mut Steps<C>) -> Option<usize>
-    requires within { least < length (fields_of inverse.entry.places) }
+    requires within { least < length (fields_of inverse.places) }
     ensures cycle { IfSome result (λ count. 1 ≤ count → IsShortCycle (fields_of inverse.entry.places) (counted inverse.entry.marks) least count) }
     ensures few { IfSome result (λ count. count ≤ 65) }
     ensures grows { steps.old ≤ steps.new }
