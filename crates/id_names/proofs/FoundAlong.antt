@@ -14,8 +14,10 @@ use Rattle.id_names.proofs.Walks.{walk_past, walk_here, walk_jumps, walk_follows
 
 -- steps after steps
 pub after_after : (places : List ℕ) (i k x : ℕ) → after places i (after places k x) ≡ after places (i + k) x
-after_after places zero k x = refl
-after_after places (suc i) k x = ap (λ y. get_or places y 0) (after_after places i k x)
+after_after places zero k x = let e : k ≡ 0 + k = omega arith in ap (λ n. after places n x) e
+after_after places (suc i) k x =
+    let e : suc (i + k) ≡ suc i + k = omega arith in
+    ap (λ y. get_or places y 0) (after_after places i k x) ∙ ap (λ n. after places n x) e
 
 same_some : (j k : ℕ) → Some j ≡ Some k → j ≡ k
 same_some j k e = cc
@@ -38,7 +40,7 @@ module _ (places : List ℕ) (marks : List Bool) (back : List ℕ) where
         ∙ found_along j d (t - 1) (get_or places x 0) may (omega arith)
         (λ k l. subst (λ y. y < length places) (stepped_on (λ y. get_or places y 0) k x) (within (suc k) (omega arith)))
         (λ k l. ap (λ y. may && get_or marks y false) (sym (stepped_on (λ y. get_or places y 0) k x)) ∙ free (suc k) (omega arith))
-        (sym (stepped_on (λ y. get_or places y 0) (d + 1) x) ∙ e)
+        (sym (stepped_on (λ y. get_or places y 0) (d + 1) x) ∙ (let same : suc (d + 1) ≡ suc d + 1 = omega arith in ap (λ n. after places n x) same) ∙ e)
   ]
 
   -- and over a jump from the first mark
@@ -92,7 +94,7 @@ module _ (places : List ℕ) (marks : List Bool) (back : List ℕ) where
 
   -- where each place is such a one, no number fails
   module _ (many : AreMany IsFound (length places)) where
-    number : ℕ → ℕ
+    abbrev number : ℕ → ℕ
     number i = unwrap_or (number_at places marks back (many.item i)) 0
 
     is_number : (i : ℕ) → i < length places → number_at places marks back (many.item i) ≡ Some (number i)

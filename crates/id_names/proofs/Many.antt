@@ -19,7 +19,7 @@ none_yet P = record {
 }
 
 module _ (P Q R : ℕ → Type 0) (a b : ℕ) (p : AreMany P a) (q : AreMany Q b) (apart : (y : ℕ) → P y → Q y → ⊥) (left : (y : ℕ) → P y → R y) (right : (y : ℕ) → Q y → R y) where
-  both : ℕ → ℕ
+  abbrev both : ℕ → ℕ
   both i = cond (nat_lt i a) (p.item i) (q.item (i - a))
 
   at_left : (i : ℕ) → i < a → both i ≡ p.item i
