@@ -18,14 +18,14 @@ rows_few c l h =
     let rows : c * (3 * l + 18) ≤ c * (12 * l) = mul-le-mul_left c few in
     omega arith
 
-other_rows_few : (c l : ℕ) → 2 ≤ l → c * (3 * l + 16) ≤ 12 * (l * (c + 1))
+other_rows_few : (c l : ℕ) → 2 ≤ l → c * (9 * l + 31) ≤ 28 * (l * (c + 1))
 other_rows_few c l h =
-    let few : 3 * l + 16 ≤ 12 * l = omega arith in
-    let rows : c * (3 * l + 16) ≤ c * (12 * l) = mul-le-mul_left c few in
+    let few : 9 * l + 31 ≤ 28 * l = omega arith in
+    let rows : c * (9 * l + 31) ≤ c * (28 * l) = mul-le-mul_left c few in
     omega arith
 
 -- all that a check reads
-pub all_few : (c bits : ℕ) → bits ≡ c + 2 ^ digits c → bits + 8 + 9 + c * (3 * digits (c + 2) + 18) + (c + 8) + 9 + c * (3 * digits (c + 2) + 16) ≤ 64 * (digits (c + 2) * (c + 1))
+pub all_few : (c bits : ℕ) → bits ≡ c + 2 ^ digits c → bits + 8 + 9 + c * (3 * digits (c + 2) + 18) + (c + 8) + 9 + c * (9 * digits (c + 2) + 31) ≤ 64 * (digits (c + 2) * (c + 1))
 all_few c bits e =
     let l = digits (c + 2) in
     let two : 2 ≤ l = two_digits c in

@@ -10,6 +10,10 @@ pub mod DigitBounds
 pub mod Ids
 pub mod Walks
 pub mod FaultLaws
+pub mod Many
+pub mod Following
+pub mod FoundAlong
+pub mod OnWays
 pub mod HighBits
 pub mod HighLaws
 pub mod Held

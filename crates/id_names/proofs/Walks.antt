@@ -1,8 +1,14 @@
 -- The steps of the walk from a place.
 use Rattle.std.proofs.Common.{◌≡◌, ◌≢◌, ℕ, zero, suc, ◌+◌, ◌-◌, ◌<◌, ◌≤◌, Bool, true, false, ◌&&◌, List, length, get_or, refl, ap, sym, ◌∙◌, subst, arith, Option, Some, None}
 use Rattle.std.proofs.lemmas.Bool.{lt-ltb, le-ltb, eq-eqb, ne_eqb}
+use Rattle.bit_words.specs.Bits.{rank}
 use Rattle.bit_words.specs.Digits.{digits}
+use Rattle.bit_words.proofs.Ranks.{rank_more_yes, rank-le-rank}
 use Rattle.id_names.specs.Inverse.{walk, back_from, number_at}
+
+-- a mark has one of the pointers
+pub mark_within : (marks : List Bool) (x : ℕ) → x < length marks → get_or marks x false ≡ true → rank true marks x < rank true marks (length marks)
+mark_within marks x h e = omega (arith, rank_more_yes true marks x false h e, rank-le-rank true marks (x + 1) (length marks) (omega arith))
 
 module _ (places : List ℕ) (marks : List Bool) (back : List ℕ) (j : ℕ) where
   -- a walk that has come to no number

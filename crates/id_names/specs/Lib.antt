@@ -1,6 +1,7 @@
 pub mod Names
 pub mod Rising
 pub mod Inverse
+pub mod Ways
 pub mod RisingNames
 pub mod Faults
 pub mod Parts

@@ -1,4 +1,4 @@
-//! The check of the parts of names, and the two sweeps that it makes.
+//! The check of the parts of names, and the sweeps that it makes.
 
 ghost use Rattle.std.specs.Prelude.{◌≡◌, ◌≤◌, ◌+◌, ◌*◌, length, MatchResult, Some, None};
 ghost use Rattle.bit_words.specs.Digits.{digits};
@@ -11,6 +11,7 @@ use crate::fault::NameFault;
 use crate::inverse::Inverse;
 use crate::name_parts::NameParts;
 use crate::rising_ids::RisingIds;
+use crate::ways::all_found;
 use bit_words::Steps;
 use rank_select::{RankView, check_counts};
 use std::sync::ledger::Ledger;
@@ -34,7 +35,7 @@ fn first_not_rising<C: Ledger>(ids: RisingIds<'_>, steps: &mut Steps<C>) -> Opti
 }
 
 /// The first number that has no place, or to which the walk from its place does not come.
-fn first_not_found<C: Ledger>(inverse: Inverse<'_>, steps: &mut Steps<C>) -> Option<usize>
+fn first_by_walks<C: Ledger>(inverse: Inverse<'_>, steps: &mut Steps<C>) -> Option<usize>
     ensures number { result ≡ first_failing (is_ordered (fields_of inverse.entry.places) (number_in inverse.entry)) (length (fields_of inverse.entry.places)) }
     ensures grows { steps.old ≤ steps.new }
     ensures cost { steps.new ≤ steps.old + length (fields_of inverse.entry.places) * (3 * digits (length (fields_of inverse.entry.places) + 2) + 16) }
@@ -47,6 +48,19 @@ fn first_not_found<C: Ledger>(inverse: Inverse<'_>, steps: &mut Steps<C>) -> Opt
         }
     }
     None
+}
+
+/// The first number that has no place, or to which the walk from its place does not come. Where counts show that there
+/// is none, no walk is made.
+fn first_not_found<C: Ledger>(inverse: Inverse<'_>, steps: &mut Steps<C>) -> Option<usize>
+    ensures number { result ≡ first_failing (is_ordered (fields_of inverse.entry.places) (number_in inverse.entry)) (length (fields_of inverse.entry.places)) }
+    ensures grows { steps.old ≤ steps.new }
+    ensures cost { steps.new ≤ steps.old + length (fields_of inverse.entry.places) * (9 * digits (length (fields_of inverse.entry.places) + 2) + 31) }
+{
+    if all_found(inverse, steps) {
+        return None;
+    }
+    first_by_walks(inverse, steps)
 }
 
 /// Whether the parts are names: the ids rise and are in range, each number has a place, and from the place the walk

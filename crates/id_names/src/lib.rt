@@ -19,6 +19,7 @@ mod rising_ids;
 mod rising_words;
 mod sorted;
 mod view;
+mod ways;
 pub mod worked;
 
 pub use checking::check;

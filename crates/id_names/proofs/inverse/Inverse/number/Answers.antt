@@ -1,12 +1,10 @@
 use Rattle.std.proofs.Common.{◌≡◌, ℕ, ◌+◌, ◌-◌, ◌<◌, ◌≤◌, Bool, true, false, ◌&&◌, List, length, get_or, refl, ap, sym, ◌∙◌, subst, arith, Some, None, ◌≢◌}
 use Rattle.std.specs.Prelude.{if◌then◌else◌}
-use Rattle.bit_words.specs.Bits.{rank}
 use Rattle.bit_words.specs.Digits.{digits}
 use Rattle.bit_words.specs.PackedView.{fields_of}
-use Rattle.bit_words.proofs.Ranks.{rank_more_yes, rank-le-rank}
 use Rattle.rank_select.specs.RankView.{counted}
 use Rattle.id_names.specs.Inverse.{walk, stride, back_from}
-use Rattle.id_names.proofs.Walks.{walk_past, walk_here, walk_ends, walked, left_jumped, left_followed}
+use Rattle.id_names.proofs.Walks.{mark_within, walk_past, walk_here, walk_ends, walked, left_jumped, left_followed}
 use Rattle.id_names.proofs.inverse.Inverse.number.Goals as goal
 use Rattle.id_names.proofs.inverse.Inverse.number.Goals.{then-may_jump+then-bit, else-may_jump, else-may_jump-via-then-may_jump+else-bit, else-may_jump-via-else-may_jump}
 
@@ -33,9 +31,6 @@ clear_first true b e = cc
 clear_second : (a b : Bool) → b ≡ false → (a && b) ≡ false
 clear_second false b e = refl
 clear_second true b e = e
-
-mark_within : (marks : List Bool) (x : ℕ) → x < length marks → get_or marks x false ≡ true → rank true marks x < rank true marks (length marks)
-mark_within marks x h e = omega (arith, rank_more_yes true marks x false h e, rank-le-rank true marks (x + 1) (length marks) (omega arith))
 
 pub loop-test-init : goal.loop-test-init
 loop-test-init g c = record {

@@ -3,7 +3,7 @@ use Rattle.bit_words.specs.PackedView.{fields_of}
 use Rattle.bit_words.specs.Digits.{digits}
 use Rattle.id_names.specs.Faults.{is_ordered}
 use Rattle.id_names.specs.PartViews.{number_in}
-use Rattle.id_names.proofs.checking.first_not_found.Given as goal
+use Rattle.id_names.proofs.checking.first_by_walks.Given as goal
 
 abbrev pub invariant-loop-number : goal.invariant-loop-number
 invariant-loop-number g l = record {

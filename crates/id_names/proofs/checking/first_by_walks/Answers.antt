@@ -6,8 +6,8 @@ use Rattle.bit_words.specs.PackedView.{fields_of}
 use Rattle.id_names.specs.Faults.{is_ordered}
 use Rattle.id_names.specs.PartViews.{number_in}
 use Rattle.id_names.proofs.FaultLaws.{failing_none, failing_some, not_ordered}
-use Rattle.id_names.proofs.checking.first_not_found.Goals as goal
-use Rattle.id_names.proofs.checking.first_not_found.Goals.{then-place-count-via-then-place-count, then-place-count-via-else-place-count+then-ne}
+use Rattle.id_names.proofs.checking.first_by_walks.Goals as goal
+use Rattle.id_names.proofs.checking.first_by_walks.Goals.{then-place-count-via-then-place-count, then-place-count-via-else-place-count+then-ne}
 
 found_there : (o : Option ℕ) (k : ℕ) → o ≡ Some k → true ≡ not (option_eq eqb o (Some k)) → ⊥
 found_there o k e h =

@@ -1,0 +1,13 @@
+use Rattle.std.proofs.Common.{◌≤◌, ◌<◌, ◌+◌, ◌*◌, length}
+use Rattle.bit_words.specs.PackedView.{fields_of}
+use Rattle.rank_select.specs.RankView.{counted}
+use Rattle.id_names.proofs.Following.{IsFollowed}
+use Rattle.id_names.proofs.ways.way.Given as goal
+
+abbrev pub invariant-loop-passed : goal.invariant-loop-passed
+invariant-loop-passed g l = record {
+  within : l.number < length (fields_of l.inverse.places);
+  followed : IsFollowed (fields_of l.inverse.places) (counted l.inverse.marks) l.mark l.number l.passed;
+  grows : l.initial.steps ≤ l.steps;
+  steps : l.steps ≤ l.initial.steps + 3 * l.passed;
+}

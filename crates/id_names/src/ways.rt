@@ -1,0 +1,131 @@
+//! A quick test that the walk from the place of each number comes to it.
+//!
+//! It counts places from which a walk surely comes to a number: those on the way from a mark to the next one, if that
+//! one points back, and those in a short cycle without a mark. No place is counted twice, so where as many are counted
+//! as there are numbers, no place is missing, and no two numbers have one place.
+
+ghost use Rattle.std.specs.Prelude.{◌≡◌, ◌<◌, ◌≤◌, ◌+◌, ◌*◌, length, true, false, IfSome, None, slice_index_or};
+ghost use Rattle.bit_words.specs.Digits.{digits};
+ghost use Rattle.bit_words.specs.PackedView.{fields_of};
+ghost use Rattle.rank_select.specs.RankView.{counted};
+ghost use Rattle.id_names.specs.Faults.{is_ordered, first_failing};
+ghost use Rattle.id_names.specs.Inverse.{back_from};
+ghost use Rattle.id_names.specs.PartViews.{number_in};
+ghost use Rattle.id_names.specs.Ways.{IsWay, IsShortCycle, IsOnWay, IsOnCycle, AreMany};
+
+use crate::inverse::{Inverse, binary_digits};
+use bit_words::Steps;
+use std::sync::ledger::Ledger;
+
+/// What a marked number points back to.
+fn pointer<C: Ledger>(inverse: Inverse<'_>, number: usize, steps: &mut Steps<C>) -> usize
+    requires within { number < length (fields_of inverse.places) }
+    requires marked { slice_index_or (counted inverse.marks) number false ≡ true }
+    ensures pointer { result ≡ back_from (counted inverse.entry.marks) (fields_of inverse.entry.back) number }
+    ensures grows { steps.old ≤ steps.new }
+    ensures cost { steps.new ≤ steps.old + 11 }
+{
+    let mark = inverse.marks.rank1(number, steps);
+    inverse.back.field(mark, steps) as usize
+}
+
+/// How many steps lead from a mark to the next one. 0 where the number is no mark, None where the next one points back
+/// to another number, or is too far away.
+fn way<C: Ledger>(inverse: Inverse<'_>, mark: usize, steps: &mut Steps<C>) -> Option<usize>
+    requires within { mark < length (fields_of inverse.places) }
+    ensures way { IfSome result (λ count. 1 ≤ count → IsWay (fields_of inverse.entry.places) (counted inverse.entry.marks) (fields_of inverse.entry.back) mark count) }
+    ensures few { IfSome result (λ count. count ≤ 64) }
+    ensures grows { steps.old ≤ steps.new }
+    ensures cost { steps.new ≤ steps.old + 3 * digits (length (fields_of inverse.entry.places) + 2) + 12 }
+{
+    if !inverse.marks.bits().bit(mark, steps) {
+        return Some(0);
+    }
+    let most = binary_digits(inverse.places.count() + 2) as usize;
+    let mut number = mark;
+    for passed in 0..most {
+        number = inverse.places.field(number, steps) as usize;
+        if number >= inverse.places.count() {
+            return None;
+        }
+        if inverse.marks.bits().bit(number, steps) {
+            if pointer(inverse, number, steps) != mark {
+                return None;
+            }
+            return Some(passed + 1);
+        }
+    }
+    None
+}
+
+/// How many numbers are in the cycle of one without a mark, whose least it is. 0 where a mark or a smaller number is on
+/// the cycle, None where neither comes soon.
+fn short_cycle<C: Ledger>(inverse: Inverse<'_>, least: usize, steps: &mut Steps<C>) -> Option<usize>
+    requires within { least < length (fields_of inverse.places) }
+    ensures cycle { IfSome result (λ count. 1 ≤ count → IsShortCycle (fields_of inverse.entry.places) (counted inverse.entry.marks) least count) }
+    ensures few { IfSome result (λ count. count ≤ 65) }
+    ensures grows { steps.old ≤ steps.new }
+    ensures cost { steps.new ≤ steps.old + 3 * digits (length (fields_of inverse.entry.places) + 2) + 3 }
+{
+    let most = binary_digits(inverse.places.count() + 2) as usize + 1;
+    let mut number = least;
+    for passed in 0..most {
+        if inverse.marks.bits().bit(number, steps) {
+            return Some(0);
+        }
+        number = inverse.places.field(number, steps) as usize;
+        if number >= inverse.places.count() {
+            return None;
+        }
+        if number < least {
+            return Some(0);
+        }
+        if number == least {
+            return Some(passed + 1);
+        }
+    }
+    None
+}
+
+/// How many places are on ways from marks, or None where one of these isn't right.
+fn on_ways<C: Ledger>(inverse: Inverse<'_>, steps: &mut Steps<C>) -> Option<usize>
+    ensures many { IfSome result (λ count. AreMany (IsOnWay (fields_of inverse.entry.places) (counted inverse.entry.marks) (fields_of inverse.entry.back) (length (fields_of inverse.entry.places))) count) }
+    ensures few { IfSome result (λ count. count ≤ 64 * length (fields_of inverse.entry.places)) }
+    ensures grows { steps.old ≤ steps.new }
+    ensures cost { steps.new ≤ steps.old + length (fields_of inverse.entry.places) * (3 * digits (length (fields_of inverse.entry.places) + 2) + 12) }
+{
+    let mut count = 0;
+    for mark in 0..inverse.places.count() {
+        count += way(inverse, mark, steps)?;
+    }
+    Some(count)
+}
+
+/// How many places are in short cycles without a mark, or None where one of these isn't right.
+fn on_cycles<C: Ledger>(inverse: Inverse<'_>, steps: &mut Steps<C>) -> Option<usize>
+    ensures many { IfSome result (λ count. AreMany (IsOnCycle (fields_of inverse.entry.places) (counted inverse.entry.marks) (fields_of inverse.entry.back) (length (fields_of inverse.entry.places))) count) }
+    ensures few { IfSome result (λ count. count ≤ 65 * length (fields_of inverse.entry.places)) }
+    ensures grows { steps.old ≤ steps.new }
+    ensures cost { steps.new ≤ steps.old + length (fields_of inverse.entry.places) * (3 * digits (length (fields_of inverse.entry.places) + 2) + 3) }
+{
+    let mut count = 0;
+    for least in 0..inverse.places.count() {
+        count += short_cycle(inverse, least, steps)?;
+    }
+    Some(count)
+}
+
+/// Whether the counts show that the walk from the place of each number comes to it. True for all that `make` makes.
+pub(crate) fn all_found<C: Ledger>(inverse: Inverse<'_>, steps: &mut Steps<C>) -> bool
+    ensures all { result ≡ true → first_failing (is_ordered (fields_of inverse.entry.places) (number_in inverse.entry)) (length (fields_of inverse.entry.places)) ≡ None }
+    ensures grows { steps.old ≤ steps.new }
+    ensures cost { steps.new ≤ steps.old + length (fields_of inverse.entry.places) * (6 * digits (length (fields_of inverse.entry.places) + 2) + 15) }
+{
+    let Some(ways) = on_ways(inverse, steps) else {
+        return false;
+    };
+    let Some(cycles) = on_cycles(inverse, steps) else {
+        return false;
+    };
+    ways + cycles == inverse.places.count()
+}
