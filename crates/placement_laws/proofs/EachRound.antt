@@ -13,7 +13,7 @@ use Rattle.plane_model.proofs.SetLaws.{same_is, same_self, same_edges}
 use Rattle.plane_model.proofs.Rounds.{in_component, from_component}
 use Rattle.placement_laws.proofs.Parts.{HasParts, component_self, component_sub, component_sym, component_name, component_name-in, component_name-there, components-apart, rings-signed}
 
-of_components-append : (m : PlaneMap) (xs ys : List ℤ) → of_components m (xs ++ ys) ≡ of_components m xs ++ of_components m ys
+pub of_components-append : (m : PlaneMap) (xs ys : List ℤ) → of_components m (xs ++ ys) ≡ of_components m xs ++ of_components m ys
 of_components-append m [] ys = refl
 of_components-append m (x ∷ xs) ys = ap (λ ds. component m x ++ ds) (of_components-append m xs ys) ∙ sym (append_assoc (component m x) (of_components m xs) (of_components m ys))
 
@@ -52,7 +52,7 @@ same_front m (suc n) front other reached same =
     ]))
 
 -- a round that reaches something leaves fewer components
-fewer_left : (m : PlaneMap) → HasParts m → (starts new : List ℤ) → ((r : ℤ) → has_edge starts r ≡ true → has_edge (rings m) r ≡ true) → (r : ℤ) → has_edge (rings m) r ≡ true → has_edge new r ≡ true → has_edge (of_components m starts) r ≡ false
+pub fewer_left : (m : PlaneMap) → HasParts m → (starts new : List ℤ) → ((r : ℤ) → has_edge starts r ≡ true → has_edge (rings m) r ≡ true) → (r : ℤ) → has_edge (rings m) r ≡ true → has_edge new r ≡ true → has_edge (of_components m starts) r ≡ false
     → unreached m (starts ++ new) < unreached m starts
 fewer_left m g starts new among r h on fresh =
     let p : ℤ → Bool = λ c. not (has_edge (of_components m (starts ++ new)) c) in
@@ -79,7 +79,7 @@ fewer_left m g starts new among r h on fresh =
     ]) in
     omega arith
 
-some_or_none : (xs : List ℤ) → (xs ≡ []) ⊎ ((x : ℤ) × (has_edge xs x ≡ true))
+pub some_or_none : (xs : List ℤ) → (xs ≡ []) ⊎ ((x : ℤ) × (has_edge xs x ≡ true))
 some_or_none [] = inl refl
 some_or_none (x ∷ xs) = inr (x, or_left _ _ (same_self x))
 
@@ -117,7 +117,7 @@ one_less m g (suc left) front starts among enough = elim (some_or_none (round_st
 ]
 
 -- the rings of the front are reached by the round
-round_reaches : (m : PlaneMap) (front : List ℕ) (starts : List ℤ) (r : ℤ) → has_edge (rings m) r ≡ true → has front (side m r) ≡ true → has_edge (of_components m (starts ++ round_starts m front starts)) r ≡ true
+pub round_reaches : (m : PlaneMap) (front : List ℕ) (starts : List ℤ) (r : ℤ) → has_edge (rings m) r ≡ true → has front (side m r) ≡ true → has_edge (of_components m (starts ++ round_starts m front starts)) r ≡ true
 round_reaches m front starts r h on =
     let new = round_starts m front starts in
     elim (cases_Bool (has_edge (of_components m starts) r)) [

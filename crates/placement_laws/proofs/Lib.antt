@@ -6,3 +6,4 @@ pub mod EachRound
 pub mod Placed
 pub mod Found
 pub mod Accepted
+pub mod ClosedSets

@@ -1,2 +1,3 @@
 pub mod Placing
 pub mod PlacedSoFar
+pub mod Connected

@@ -1,6 +1,7 @@
 //! What the definitions of rings, components and faces say, each law the contract of a function that does nothing.
 
-ghost use Rattle.std.specs.Prelude.{◌≡◌, ◌⊎◌, ℕ, ℤ, pos, IsTrue, IsFalse, List, [], ◌∷◌, ◌++◌, Some, None, length, slice_get};
+ghost use Rattle.std.specs.Prelude.{◌≡◌, ◌+◌, ◌⊎◌, ◌↔◌, ℕ, ℤ, pos, nat_lt, IsTrue, IsFalse, List, [], ◌∷◌, ◌++◌, Some, None, length, slice_get};
+ghost use Rattle.std.specs.List.{list_all};
 ghost use Rattle.topo_base.specs.SignedEdge.{same_edge};
 ghost use Rattle.plane_model.specs.declared.rows.FaceRow.{FaceRow};
 ghost use Rattle.plane_model.specs.Rows.{Rows};
@@ -9,11 +10,12 @@ ghost use Rattle.plane_model.specs.PlaneMap.{map_of, signed_edges, side, ring, r
 ghost use Rattle.plane_model.specs.Rotation.{is_rotation, is_rotation_system};
 ghost use Rattle.plane_model.specs.InRange.{is_in_range};
 ghost use Rattle.plane_model.specs.Component.{component, components};
-ghost use Rattle.plane_model.specs.Faces.{is_labelled, is_placed, is_outer, outer_ring, outer_rings};
+ghost use Rattle.plane_model.specs.Faces.{is_labelled, is_placed, is_reached, is_outer, outer_ring, outer_rings};
 ghost use Rattle.plane_model.specs.Lists.{shell};
 ghost use Rattle.plane_model.specs.Orders.{is_rising_edges};
 ghost use Rattle.plane_model.specs.Worked.{island, minus};
 ghost use Rattle.placement_laws.specs.Placing.{IsLabelledRotation, IsPlacing, IsShellOfEarlier, LiesInEarlier};
+ghost use Rattle.placement_laws.specs.Connected.{IsClosedAlongRings, EachClosedHas, EachClosedHasAll, IsTree, cut_off};
 ghost use Rattle.placement_laws.specs.PlacedSoFar.{IsPlacedSoFar, IsNextFront, round_starts};
 
 /// Tables that are in range and are a labelled rotation system meet what the laws ask.
@@ -57,6 +59,26 @@ pub fn placed_gives_placing()
 pub fn placing_gives_placed()
     ensures placed { (t : Rows) (starts : List ℤ) → IsLabelledRotation t → IsPlacing (map_of t) starts → IsTrue (is_placed (map_of t)) }
     ensures outer { (t : Rows) (starts : List ℤ) (r : ℤ) → IsLabelledRotation t → IsPlacing (map_of t) starts → is_outer (map_of t) r ≡ has_edge starts r }
+{}
+
+/// A component is reached exactly where it is in each set of faces and components that has face 0 and is closed along
+/// rings, and all are reached exactly where each such set has all. So a map is placed exactly where the graph whose
+/// points are faces and components and whose lines are rings is a tree.
+pub fn closed_along_rings()
+    ensures reached { (t : Rows) (c : ℤ) → IsLabelledRotation t → let m = map_of t in IsTrue (has_edge (components m) c) → IsTrue (is_reached m c) ↔ EachClosedHas m c }
+    ensures all { (t : Rows) → IsLabelledRotation t → let m = map_of t in IsTrue (list_all (is_reached m) (components m)) ↔ EachClosedHasAll m }
+    ensures placed { (t : Rows) → IsLabelledRotation t → IsTrue (is_placed (map_of t)) ↔ IsTree (map_of t) }
+{}
+
+/// A worked map with as many rings as a tree has lines, which isn't placed: faces 0 and 1 with the component of edge 1
+/// are a closed set without that of edge 4.
+pub fn worked_cut_off()
+    ensures labelled { IsLabelledRotation cut_off }
+    ensures many { let m = map_of cut_off in length (rings m) ≡ length m.faces + length (components m) }
+    ensures components { components (map_of cut_off) ≡ pos 1 ∷ pos 4 ∷ [] }
+    ensures closed { IsClosedAlongRings (map_of cut_off) (λ f. nat_lt f 2) (same_edge (pos 1)) }
+    ensures not_reached { IsFalse (is_reached (map_of cut_off) (pos 4)) }
+    ensures not_placed { IsFalse (is_placed (map_of cut_off)) }
 {}
 
 /// Each component of a placed map has one outer ring.
