@@ -1,6 +1,5 @@
-use Rattle.std.proofs.Common.{◌≡◌, ℕ, ◌+◌, ◌-◌, ◌<◌, ◌≤◌, inl, inr, true, false, length, get_or, ap, sym, ◌∙◌, subst, arith}
+use Rattle.std.proofs.Common.{◌≡◌, ℕ, ◌+◌, ◌-◌, ◌<◌, inl, inr, true, false, length, get_or, ap, sym, ◌∙◌, subst, arith}
 use Rattle.std.proofs.lemmas.Bool.{cases_lt}
-use Rattle.bit_words.specs.Bits.{rank}
 use Rattle.bit_words.specs.PackedView.{fields_of}
 use Rattle.bit_words.proofs.Ranks.{rank-zero, rank-le-rank, rank_more_yes, rank_more_no}
 use Rattle.rank_select.specs.RankView.{counted}
