@@ -1,9 +1,8 @@
 -- Walks that come to a number: along the places, and over a jump.
 use Rattle.std.specs.Option.{is_some}
 use Rattle.std.specs.Prelude.{unwrap_or}
-use Rattle.std.proofs.Common.{◌≡◌, ◌≢◌, ℕ, zero, suc, ◌+◌, ◌-◌, ◌<◌, ◌≤◌, inl, inr, Bool, true, false, ◌&&◌, List, length, get_or, refl, ap, sym, subst, ◌∙◌, arith, Option, Some, None}
+use Rattle.std.proofs.Common.{◌≡◌, ℕ, zero, suc, ◌+◌, ◌-◌, ◌<◌, ◌≤◌, inl, inr, Bool, true, false, ◌&&◌, List, length, get_or, refl, ap, sym, subst, ◌∙◌, arith, Option, Some, None}
 use Rattle.std.proofs.lemmas.Bool.{cases_lt, cases_eq, cases_Bool, and_parts}
-use Rattle.orbits.specs.Walks.{stepped}
 use Rattle.orbits.proofs.Reached.{stepped_on}
 use Rattle.id_names.specs.Faults.{is_ordered, first_failing}
 use Rattle.id_names.specs.Inverse.{walk, back_from, stride, number_at}

@@ -3,6 +3,7 @@
 ghost use Rattle.std.specs.Prelude.{◌≡◌, ◌≤◌, ◌+◌, ◌*◌, length, MatchResult, Some, None};
 ghost use Rattle.bit_words.specs.Digits.{digits};
 ghost use Rattle.bit_words.specs.PackedView.{fields_of};
+ghost use Rattle.rank_select.specs.RankView.{counted};
 ghost use Rattle.id_names.specs.Faults.{is_rising, is_ordered, first_failing};
 ghost use Rattle.id_names.specs.Parts.{fault_of, HasSizes};
 ghost use Rattle.id_names.specs.PartViews.{bound_in, id_in, number_in};
@@ -20,16 +21,21 @@ use std::sync::ledger::Ledger;
 fn first_not_rising<C: Ledger>(ids: RisingIds<'_>, steps: &mut Steps<C>) -> Option<usize>
     ensures place { result ≡ first_failing (is_rising (bound_in ids.entry) (id_in ids.entry)) (length (fields_of ids.entry.lows)) }
     ensures grows { steps.old ≤ steps.new }
-    ensures cost { steps.new ≤ steps.old + length (fields_of ids.entry.lows) * (3 * digits (length (fields_of ids.entry.lows) + 2) + 18) }
+    ensures cost { steps.new ≤ steps.old + length (counted ids.entry.high) + 2 * length (fields_of ids.entry.lows) }
 {
     let bound = ids.id_bound();
+    let bits = ids.high.bits();
+    let mut place = 0;
     let mut last = 0;
-    for place in 0..ids.lows.count() {
-        let id = ids.id(place, steps);
-        if id <= last || id >= bound {
-            return Some(place);
+    for one in 0..bits.len() {
+        if bits.bit(one, steps) {
+            let id = ids.id_of_one(place, one, steps);
+            if id <= last || id >= bound {
+                return Some(place);
+            }
+            place += 1;
+            last = id;
         }
-        last = id;
     }
     None
 }

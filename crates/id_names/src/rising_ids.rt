@@ -23,7 +23,8 @@ pub(crate) struct RisingIds<'a> {
 }
 
 impl<'a> RisingIds<'a> {
-    ghost use Rattle.std.specs.Prelude.{ℕ, ◌≡◌, ◌<◌, ◌≤◌, ◌+◌, ◌*◌, length};
+    ghost use Rattle.std.specs.Prelude.{ℕ, ◌≡◌, ◌<◌, ◌≤◌, ◌+◌, ◌*◌, length, true, Some};
+    ghost use Rattle.bit_words.specs.Bits.{IsSelected};
     ghost use Rattle.bit_words.specs.Digits.{digits};
     ghost use Rattle.bit_words.specs.PackedView.{fields_of};
     ghost use Rattle.rank_select.specs.RankView.{counted};
@@ -47,6 +48,17 @@ impl<'a> RisingIds<'a> {
         let Some(one) = self.high.select1(place, steps) else {
             unreachable!()
         };
+        self.id_of_one(place, one, steps)
+    }
+
+    /// The id at this place, whose one in the high parts stands there.
+    pub(crate) fn id_of_one<C: Ledger>(&self, place: usize, one: usize, steps: &mut Steps<C>) -> u64
+        requires within { place < length (fields_of self.now.lows) }
+        requires selected { IsSelected true (counted self.now.high) place (Some one) }
+        ensures id { result ≡ id_in self.now place }
+        ensures some_steps { steps.old + 1 ≤ steps.new }
+        ensures cost { steps.new ≤ steps.old + 2 }
+    {
         let high = (one - place) as u64;
         (high << self.lows.width()) + self.lows.field(place, steps)
     }

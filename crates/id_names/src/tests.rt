@@ -6,6 +6,7 @@ mod image;
 mod make;
 
 use crate::tests::image::{Image, Words, image_of, parts_of};
+use crate::ways::all_found;
 use crate::{NameFault, NamesView, check};
 use bit_words::Steps;
 use std::alloc::Global;
@@ -43,6 +44,22 @@ fn five() -> Words {
         marks: 9,
         mark_counts: 2 << 32,
         back: 3,
+    }
+}
+
+/// Seven names in a cycle of five, which is marked, and one of two: 2, 3, 4, 5, 1 and 7, 6.
+fn seven() -> Words {
+    Words {
+        count: 7,
+        low: 27,
+        marked: 2,
+        high: 127,
+        high_counts: 7 << 32,
+        lows: [54043195796881409, 87960930746368, 120259085056],
+        places: 1509585,
+        marks: 17,
+        mark_counts: 2 << 32,
+        back: 4,
     }
 }
 
@@ -108,6 +125,25 @@ fn agrees(
     }
 }
 
+/// Whether counts show that each number of these names is found.
+fn is_counted<C: Ledger>(alloc: Global, names: NamesView<'_>, blank: Blank) -> bool
+    requires name { blank.name ≡ C.name }
+    requires parts { blank.parts ≡ C.parts }
+    requires some { 0 < blank.parts }
+{
+    let mut steps = Steps::<C>::new(alloc, blank);
+    all_found(names.inverse(), &mut steps)
+}
+
+/// Whether counts show it of the names of these words.
+fn need_no_walks(alloc: Global, words: Words) -> Result<bool, Fail> {
+    let image = image_of(alloc, words)?;
+    match open::<Brand>(alloc, &image, Blank::new(1)) {
+        Some(Ok(names)) => Ok(is_counted::<Brand>(alloc, names, Blank::new(1))),
+        _ => Ok(false),
+    }
+}
+
 /// What `check` says of these words. None where their sizes do not fit.
 fn told(alloc: Global, words: Words) -> Result<Option<Result<(), NameFault>>, Fail> {
     let image = image_of(alloc, words)?;
@@ -136,6 +172,14 @@ fn names_in_cycles_are_asked_both_ways(rt: HostRuntime) -> Result<(), Fail> {
     assert!(rt; agrees(alloc, three, &[2, 1, 3], &[0, 4, 2147483647])?);
     assert!(rt; agrees(alloc, four(), &[2, 3, 4, 1], &[0, 5, 268435457])?);
     assert!(rt; agrees(alloc, five(), &[2, 3, 4, 5, 1], &[0, 6, 4294967295])?);
+    Ok(())
+}
+
+#[test]
+fn long_and_short_cycles_need_no_walks(rt: HostRuntime) -> Result<(), Fail> {
+    let alloc = rt.alloc();
+    assert!(rt; agrees(alloc, seven(), &[2, 3, 4, 5, 1, 7, 6], &[0, 8])?);
+    assert!(rt; need_no_walks(alloc, seven())?);
     Ok(())
 }
 

@@ -52,6 +52,12 @@ impl<'a> NamesView<'a> {
         }
     }
 
+    /// The places of the numbers, with what they are found by again.
+    #[cfg(test)]
+    pub(crate) fn inverse(&self) -> Inverse<'a> {
+        self.inverse
+    }
+
     /// How many numbers have an id.
     #[inline]
     pub fn count(&self) -> usize

@@ -1,6 +1,5 @@
-use Rattle.std.proofs.Common.{◌≤◌, ◌+◌, ◌*◌, length, sym, ◌∙◌, subst, arith}
+use Rattle.std.proofs.Common.{◌≡◌, ◌≤◌, ◌+◌, ◌*◌, length, sym, ◌∙◌, ap, arith}
 use Rattle.bit_words.specs.BitView.{bits_of}
-use Rattle.bit_words.specs.Digits.{digits}
 use Rattle.bit_words.specs.PackedView.{fields_of, width_of}
 use Rattle.rank_select.specs.RankView.{counted}
 use Rattle.id_names.specs.Parts.{names_of}
@@ -74,7 +73,8 @@ pub returns-in-Some-clause-cost : goal.returns-in-Some-clause-cost
 returns-in-Some-clause-cost g c =
     let n = length (fields_of c.args.parts.places) in
     let all = all_few n (length (bits_of c.args.parts.high)) c.requires.sizes.high in
-    let rows = subst (λ n. c.first_not_rising.new.steps ≤ c.rank1-ones.new.steps + n * (3 * digits (n + 2) + 18)) c.requires.sizes.lows c.first_not_rising.ensures.cost in
+    let bits : length (counted c.new-high.result) ≡ length (bits_of c.args.parts.high) = ap length c.new-high.ensures in
+    let rows : c.first_not_rising.new.steps ≤ c.rank1-ones.new.steps + length (bits_of c.args.parts.high) + 2 * n = omega (arith, bits, c.requires.sizes.lows, c.first_not_rising.ensures.cost) in
     omega (arith, all, c.check_counts.ensures.cost, c.rank1-ones.ensures.cost, rows)
 
 pub returns-in-Err-check_counts-clause-checked : goal.returns-in-Err-check_counts-clause-checked
@@ -97,7 +97,8 @@ pub returns-in-Err-check_counts-clause-cost : goal.returns-in-Err-check_counts-c
 returns-in-Err-check_counts-clause-cost g c =
     let n = length (fields_of c.args.parts.places) in
     let all = all_few n (length (bits_of c.args.parts.high)) c.requires.sizes.high in
-    let rows = subst (λ n. c.first_not_rising.new.steps ≤ c.rank1-ones.new.steps + n * (3 * digits (n + 2) + 18)) c.requires.sizes.lows c.first_not_rising.ensures.cost in
+    let bits : length (counted c.new-high.result) ≡ length (bits_of c.args.parts.high) = ap length c.new-high.ensures in
+    let rows : c.first_not_rising.new.steps ≤ c.rank1-ones.new.steps + length (bits_of c.args.parts.high) + 2 * n = omega (arith, bits, c.requires.sizes.lows, c.first_not_rising.ensures.cost) in
     omega (arith, all, c.check_counts.ensures.cost, c.rank1-ones.ensures.cost, rows, c.check_counts-2.ensures.cost, c.requires.sizes.marks)
 
 pub returns-then-marked-count-clause-checked : goal.returns-then-marked-count-clause-checked
@@ -121,7 +122,8 @@ pub returns-then-marked-count-clause-cost : goal.returns-then-marked-count-claus
 returns-then-marked-count-clause-cost g c =
     let n = length (fields_of c.args.parts.places) in
     let all = all_few n (length (bits_of c.args.parts.high)) c.requires.sizes.high in
-    let rows = subst (λ n. c.first_not_rising.new.steps ≤ c.rank1-ones.new.steps + n * (3 * digits (n + 2) + 18)) c.requires.sizes.lows c.first_not_rising.ensures.cost in
+    let bits : length (counted c.new-high.result) ≡ length (bits_of c.args.parts.high) = ap length c.new-high.ensures in
+    let rows : c.first_not_rising.new.steps ≤ c.rank1-ones.new.steps + length (bits_of c.args.parts.high) + 2 * n = omega (arith, bits, c.requires.sizes.lows, c.first_not_rising.ensures.cost) in
     omega (arith, all, c.check_counts.ensures.cost, c.rank1-ones.ensures.cost, rows, c.check_counts-2.ensures.cost, c.requires.sizes.marks, c.rank1-marked.ensures.cost)
 
 pub returns-in-Some-first_not_found-clause-checked : goal.returns-in-Some-first_not_found-clause-checked
@@ -146,7 +148,8 @@ pub returns-in-Some-first_not_found-clause-cost : goal.returns-in-Some-first_not
 returns-in-Some-first_not_found-clause-cost g c =
     let n = length (fields_of c.args.parts.places) in
     let all = all_few n (length (bits_of c.args.parts.high)) c.requires.sizes.high in
-    let rows = subst (λ n. c.first_not_rising.new.steps ≤ c.rank1-ones.new.steps + n * (3 * digits (n + 2) + 18)) c.requires.sizes.lows c.first_not_rising.ensures.cost in
+    let bits : length (counted c.new-high.result) ≡ length (bits_of c.args.parts.high) = ap length c.new-high.ensures in
+    let rows : c.first_not_rising.new.steps ≤ c.rank1-ones.new.steps + length (bits_of c.args.parts.high) + 2 * n = omega (arith, bits, c.requires.sizes.lows, c.first_not_rising.ensures.cost) in
     omega (arith, all, c.check_counts.ensures.cost, c.rank1-ones.ensures.cost, rows, c.check_counts-2.ensures.cost, c.requires.sizes.marks, c.rank1-marked.ensures.cost, c.first_not_found.ensures.cost)
 
 pub returns-clause-checked : goal.returns-clause-checked
@@ -171,5 +174,6 @@ pub returns-clause-cost : goal.returns-clause-cost
 returns-clause-cost g c =
     let n = length (fields_of c.args.parts.places) in
     let all = all_few n (length (bits_of c.args.parts.high)) c.requires.sizes.high in
-    let rows = subst (λ n. c.first_not_rising.new.steps ≤ c.rank1-ones.new.steps + n * (3 * digits (n + 2) + 18)) c.requires.sizes.lows c.first_not_rising.ensures.cost in
+    let bits : length (counted c.new-high.result) ≡ length (bits_of c.args.parts.high) = ap length c.new-high.ensures in
+    let rows : c.first_not_rising.new.steps ≤ c.rank1-ones.new.steps + length (bits_of c.args.parts.high) + 2 * n = omega (arith, bits, c.requires.sizes.lows, c.first_not_rising.ensures.cost) in
     omega (arith, all, c.check_counts.ensures.cost, c.rank1-ones.ensures.cost, rows, c.check_counts-2.ensures.cost, c.requires.sizes.marks, c.rank1-marked.ensures.cost, c.first_not_found.ensures.cost)

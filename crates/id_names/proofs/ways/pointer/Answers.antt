@@ -1,4 +1,4 @@
-use Rattle.std.proofs.Common.{◌≡◌, ◌<◌, ◌≤◌, arith}
+use Rattle.std.proofs.Common.{arith}
 use Rattle.rank_select.specs.RankView.{counted}
 use Rattle.id_names.proofs.Walks.{mark_within}
 use Rattle.id_names.proofs.ways.pointer.Goals as goal

@@ -1,4 +1,4 @@
-use Rattle.std.proofs.Common.{rules, ◌≡◌, ◌+◌, ◌<◌, ◌≤◌, true, false, length, get_or, ap, sym, ◌∙◌, subst, arith}
+use Rattle.std.proofs.Common.{◌≡◌, ◌+◌, ◌<◌, true, false, length, get_or, ap, sym, ◌∙◌, subst, arith}
 use Rattle.bit_words.specs.Digits.{digits}
 use Rattle.bit_words.specs.PackedView.{fields_of}
 use Rattle.rank_select.specs.RankView.{counted}
