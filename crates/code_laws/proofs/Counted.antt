@@ -9,6 +9,7 @@ use Rattle.bit_words.specs.Bits.{rank, excess, same}
 use Rattle.bit_words.proofs.Ranks.{rank_both, rank_more_yes, rank_more_no}
 use Rattle.bit_words.proofs.Finds.{find-least, least-find}
 use Rattle.parens.specs.Matching.{is_open}
+use Rattle.rank_select.proofs.Selects.{cases_kind, same-self, same-other}
 use Rattle.parens.proofs.Arcs.{IsArc, arc-opens, arc-closes}
 use Rattle.code_laws.specs.Code.{Code, positions, is_tree, is_first, parens, place, component_of, component_count, start_of, end_of}
 use Rattle.code_laws.specs.Numbers.{node_of, ring_of, pair_round, is_ring}
@@ -17,7 +18,7 @@ use Rattle.code_laws.specs.Orbits.{is_beside}
 use Rattle.code_laws.specs.declared.ring_number.RingNumber.{RingNumber}
 use Rattle.code_laws.specs.declared.ring_number.RingNumber.TheVariants.{Outer, Shell}
 use Rattle.code_laws.proofs.Apart.{number_past}
-use Rattle.code_laws.proofs.Places.{cases_kind, same-self, same-other, place_next, place_other, place_before}
+use Rattle.code_laws.proofs.Places.{place_next, place_other, place_before}
 use Rattle.code_laws.proofs.Steps.{IsIn, HasMate, Opens, Closes, pair-number, at_place}
 use Rattle.code_laws.proofs.Sound.{SoundParts, whole, flat, rises, in_one, is_component, mates, start_within, places_within}
 use Rattle.code_laws.proofs.Mates.{first_at}
