@@ -1,6 +1,6 @@
-//! Whole lists of bits and of numbers, put into words.
+//! Whole lists of bits and of numbers: counted, and put into words.
 
-ghost use Rattle.std.specs.Prelude.{◌≡◌, ◌≤◌, length, IfOk};
+ghost use Rattle.std.specs.Prelude.{◌≡◌, ◌≤◌, filter, length, IfOk};
 
 use crate::bit_maker::BitMaker;
 use crate::memory::Memory;
@@ -29,4 +29,11 @@ pub fn all_numbers(alloc: Global, numbers: &[u32]) -> Result<PackedMaker, Memory
         maker.push(u64::from(*number))?;
     }
     Ok(maker)
+}
+
+/// How many of these bits are set.
+pub fn ones(bits: &[bool]) -> usize
+    ensures { result ≡ length (filter (λ bit. bit) bits.now) }
+{
+    bits.iter().filter(|bit| **bit).count()
 }

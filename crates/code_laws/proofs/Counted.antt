@@ -1,7 +1,7 @@
 -- A component with so many edges of a kind has one number of that kind more.
 use Rattle.std.specs.Prelude.{pos, not, find, filter, ◌&&◌}
 use Rattle.std.specs.List.{range_with_len}
-use Rattle.std.proofs.Common.{◌≡◌, ℕ, zero, suc, ◌+◌, ◌-◌, ◌*◌, ◌<◌, ◌≤◌, inl, inr, Bool, true, false, ◌∷◌, length, refl, ap, sym, ◌∙◌, arith, subst, Option, Some, None, ◌==◌}
+use Rattle.std.proofs.Common.{◌≡◌, ℕ, zero, suc, ◌+◌, ◌-◌, ◌*◌, ◌<◌, ◌≤◌, inl, inr, Bool, true, false, length, refl, ap, sym, ◌∙◌, arith, subst, Option, Some, None, ◌==◌}
 use Rattle.std.proofs.lemmas.Bool.{cases_Bool, and_left, both_ways, eqb-true, eq-eqb, ne_eqb, false_from_ne_true}
 use Rattle.std.proofs.lemmas.Int.{ints}
 use Rattle.bit_words.specs.Lists.{is_at}
@@ -26,6 +26,7 @@ use Rattle.code_laws.proofs.Edges.{place_in}
 use Rattle.code_laws.proofs.Firsts.{first_gap}
 use Rattle.code_laws.proofs.Beside.{beside-from, beside-to, beside-self}
 use Rattle.code_laws.proofs.Numbered.{ring-beside, beside-ring, node-beside, beside-node}
+use Rattle.code_laws.proofs.Stacks.{filter-same, same_tests}
 
 -- no position before p is beside p
 leads : Code → Bool → ℕ → Bool
@@ -198,20 +199,6 @@ find-same p r low (suc n) same =
       | inl w ↦ rw w (rw (same low (omega arith) (omega arith) ∙ w) refl)
       | inr f ↦ rw f (rw (same low (omega arith) (omega arith) ∙ f) more)
     ]
-
-filter-same : (p r : ℕ → Bool) (low n : ℕ) → ((x : ℕ) → low ≤ x → x < low + n → p x ≡ r x) → filter p (range_with_len low n) ≡ filter r (range_with_len low n)
-filter-same p r low zero same = refl
-filter-same p r low (suc n) same =
-    let more = filter-same p r (low + 1) n (λ x a b. same x (omega arith) (omega arith)) in
-    elim (cases_Bool (r low)) [
-      | inl w ↦ rw w (rw (same low (omega arith) (omega arith) ∙ w) (ap (λ xs. low ∷ xs) more))
-      | inr f ↦ rw f (rw (same low (omega arith) (omega arith) ∙ f) more)
-    ]
-
-same_tests : (x y : Bool) → (x ≡ true → y ≡ true) → (y ≡ true → x ≡ true) → x ≡ y
-same_tests true y f g = sym (f refl)
-same_tests false true f g = g refl
-same_tests false false f g = refl
 
 ring-is : (x y : RingNumber) → is_ring x y ≡ true → x ≡ y
 ring-is (Outer i) (Outer j) h = ap Outer (sym (eqb-true _ _ h))
