@@ -1,7 +1,7 @@
 -- A component with so many edges of a kind has one number of that kind more.
 use Rattle.std.specs.Prelude.{pos, not, find, filter, ◌&&◌}
 use Rattle.std.specs.List.{range_with_len}
-use Rattle.std.proofs.Common.{◌≡◌, ℕ, zero, suc, ◌+◌, ◌-◌, ◌*◌, ◌<◌, ◌≤◌, inl, inr, Bool, true, false, ◌∷◌, length, refl, ap, sym, ◌∙◌, arith, subst, Option, Some, None, ◌==◌}
+use Rattle.std.proofs.Common.{◌≡◌, ℕ, zero, suc, ◌+◌, ◌-◌, ◌*◌, ◌<◌, ◌≤◌, inl, inr, Bool, true, false, length, refl, ap, sym, ◌∙◌, arith, subst, Option, Some, None, ◌==◌}
 use Rattle.std.proofs.lemmas.Bool.{cases_Bool, and_left, both_ways, eqb-true, eq-eqb, ne_eqb, false_from_ne_true}
 use Rattle.std.proofs.lemmas.Int.{ints}
 use Rattle.bit_words.specs.Lists.{is_at}
@@ -9,6 +9,7 @@ use Rattle.bit_words.specs.Bits.{rank, excess, same}
 use Rattle.bit_words.proofs.Ranks.{rank_both, rank_more_yes, rank_more_no}
 use Rattle.bit_words.proofs.Finds.{find-least, least-find}
 use Rattle.parens.specs.Matching.{is_open}
+use Rattle.rank_select.proofs.Selects.{cases_kind, same-self, same-other}
 use Rattle.parens.proofs.Arcs.{IsArc, arc-opens, arc-closes}
 use Rattle.code_laws.specs.Code.{Code, positions, is_tree, is_first, parens, place, component_of, component_count, start_of, end_of}
 use Rattle.code_laws.specs.Numbers.{node_of, ring_of, pair_round, is_ring}
@@ -17,7 +18,7 @@ use Rattle.code_laws.specs.Orbits.{is_beside}
 use Rattle.code_laws.specs.declared.ring_number.RingNumber.{RingNumber}
 use Rattle.code_laws.specs.declared.ring_number.RingNumber.TheVariants.{Outer, Shell}
 use Rattle.code_laws.proofs.Apart.{number_past}
-use Rattle.code_laws.proofs.Places.{cases_kind, same-self, same-other, place_next, place_other, place_before}
+use Rattle.code_laws.proofs.Places.{place_next, place_other, place_before}
 use Rattle.code_laws.proofs.Steps.{IsIn, HasMate, Opens, Closes, pair-number, at_place}
 use Rattle.code_laws.proofs.Sound.{SoundParts, whole, flat, rises, in_one, is_component, mates, start_within, places_within}
 use Rattle.code_laws.proofs.Mates.{first_at}
@@ -25,6 +26,7 @@ use Rattle.code_laws.proofs.Edges.{place_in}
 use Rattle.code_laws.proofs.Firsts.{first_gap}
 use Rattle.code_laws.proofs.Beside.{beside-from, beside-to, beside-self}
 use Rattle.code_laws.proofs.Numbered.{ring-beside, beside-ring, node-beside, beside-node}
+use Rattle.code_laws.proofs.Stacks.{filter-same, same_tests}
 
 -- no position before p is beside p
 leads : Code → Bool → ℕ → Bool
@@ -197,20 +199,6 @@ find-same p r low (suc n) same =
       | inl w ↦ rw w (rw (same low (omega arith) (omega arith) ∙ w) refl)
       | inr f ↦ rw f (rw (same low (omega arith) (omega arith) ∙ f) more)
     ]
-
-filter-same : (p r : ℕ → Bool) (low n : ℕ) → ((x : ℕ) → low ≤ x → x < low + n → p x ≡ r x) → filter p (range_with_len low n) ≡ filter r (range_with_len low n)
-filter-same p r low zero same = refl
-filter-same p r low (suc n) same =
-    let more = filter-same p r (low + 1) n (λ x a b. same x (omega arith) (omega arith)) in
-    elim (cases_Bool (r low)) [
-      | inl w ↦ rw w (rw (same low (omega arith) (omega arith) ∙ w) (ap (λ xs. low ∷ xs) more))
-      | inr f ↦ rw f (rw (same low (omega arith) (omega arith) ∙ f) more)
-    ]
-
-same_tests : (x y : Bool) → (x ≡ true → y ≡ true) → (y ≡ true → x ≡ true) → x ≡ y
-same_tests true y f g = sym (f refl)
-same_tests false true f g = g refl
-same_tests false false f g = refl
 
 ring-is : (x y : RingNumber) → is_ring x y ≡ true → x ≡ y
 ring-is (Outer i) (Outer j) h = ap Outer (sym (eqb-true _ _ h))

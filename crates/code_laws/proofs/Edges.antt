@@ -6,6 +6,7 @@ use Rattle.std.proofs.lemmas.Int.{ints}
 use Rattle.bit_words.specs.Bits.{rank, excess}
 use Rattle.bit_words.proofs.Ranks.{rank_both}
 use Rattle.bit_words.proofs.Finds.{find-least}
+use Rattle.rank_select.proofs.Selects.{select-placed}
 use Rattle.parens.proofs.Balances.{IsBalanced}
 use Rattle.parens.specs.Matching.{is_open, pair_number}
 use Rattle.parens.proofs.Arcs.{IsArc, arc-opens}
@@ -13,7 +14,7 @@ use Rattle.code_laws.specs.Code.{Code, is_tree, is_first, parens, place, mate}
 use Rattle.code_laws.specs.Numbers.{edge_of, tree_edges, first_of_edge}
 use Rattle.code_laws.specs.SeqFault.{is_sound}
 use Rattle.code_laws.proofs.Apart.{fewer}
-use Rattle.code_laws.proofs.Places.{place_next, select-placed}
+use Rattle.code_laws.proofs.Places.{place_next}
 use Rattle.code_laws.proofs.Steps.{IsIn, HasMate, Opens, Closes}
 use Rattle.code_laws.proofs.Sound.{SoundParts, sound_parts, all_places, whole, places_within, mates, in_one}
 use Rattle.code_laws.proofs.Mates.{one_place, first_at, laws_at}

@@ -5,6 +5,7 @@ use Rattle.std.proofs.Common.{◌≡◌, ℕ, zero, suc, ◌+◌, ◌-◌, ◌<�
 use Rattle.std.proofs.lemmas.Bool.{cases_lt, cases_Bool, cases_order, and_parts, both_ways, leb-true}
 use Rattle.bit_words.specs.Bits.{rank}
 use Rattle.parens.specs.Matching.{is_open, close_of, is_from, is_round, innermost}
+use Rattle.rank_select.proofs.Selects.{select-placed}
 use Rattle.parens.proofs.Arcs.{IsArc, arc-close, close-arc, arc-opens, arc-closes}
 use Rattle.code_laws.specs.Code.{Code, is_tree, parens, place, mate, component_of, end_of}
 use Rattle.code_laws.specs.Numbers.{node_of, ring_of, node_or_root, shell_or_outer, pair_round}
@@ -12,7 +13,7 @@ use Rattle.code_laws.specs.Orbits.{is_beside, orbit, from_on}
 use Rattle.code_laws.specs.declared.ring_number.RingNumber.TheVariants.{Outer, Shell}
 use Rattle.parens.proofs.Greatest.{greatest-find}
 use Rattle.code_laws.proofs.Apart.{fewer}
-use Rattle.code_laws.proofs.Places.{select-placed, place_before, place_next}
+use Rattle.code_laws.proofs.Places.{place_before, place_next}
 use Rattle.code_laws.proofs.Steps.{IsIn, HasMate, Opens, Closes}
 use Rattle.code_laws.proofs.Sound.{SoundParts, whole, all_places, places_within, in_one, is_component, mates}
 use Rattle.code_laws.proofs.Mates.{one_place}

@@ -1,53 +1,20 @@
 -- First positions by the places that open.
-use Rattle.std.specs.Prelude.{not, slice_index_or, if◌then◌else◌, nat_lt, ◌&&◌, ◌↔◌, IsNone}
+use Rattle.std.specs.Prelude.{if◌then◌else◌, nat_lt, ◌↔◌, IsNone}
 use Rattle.std.specs.Option.{option_and_then}
-use Rattle.std.proofs.Common.{◌≡◌, ℕ, ◌+◌, ◌-◌, ◌*◌, ◌/◌, ◌<◌, ◌≤◌, inl, inr, Bool, true, false, List, length, get_or, refl, ap, sym, ◌∙◌, arith, subst, Option, Some, None, ◌==◌}
-use Rattle.std.proofs.lemmas.Bool.{cases_lt, cases_Bool, and_parts, and_from, both_ways, eqb-true, eq-eqb, ne_eqb, lt-ltb, le-ltb, false_from_ne_true}
-use Rattle.bit_words.specs.Bits.{rank, select, same, IsSelected}
-use Rattle.bit_words.proofs.Ranks.{rank_both, rank-le-rank, rank_more_yes}
-use Rattle.bit_words.proofs.Finds.{find-least, find-none, least-find}
+use Rattle.std.proofs.Common.{◌≡◌, ℕ, ◌+◌, ◌-◌, ◌*◌, ◌/◌, ◌<◌, ◌≤◌, inl, inr, Bool, true, false, length, refl, ap, sym, ◌∙◌, arith, subst, Option, Some, None, ◌==◌}
+use Rattle.std.proofs.lemmas.Bool.{cases_lt, cases_Bool, both_ways, eqb-true, eq-eqb, ne_eqb, lt-ltb, le-ltb}
+use Rattle.bit_words.specs.Bits.{rank, select}
+use Rattle.bit_words.proofs.Ranks.{rank_both}
+use Rattle.bit_words.proofs.Finds.{find-none, least-find}
 use Rattle.parens.specs.Matching.{is_open}
 use Rattle.code_laws.specs.Code.{Code, is_tree, is_first, parens, place, mate, component_count, start_of}
 use Rattle.code_laws.specs.Numbers.{edge_of, node_of, ring_of, node_or_root, shell_or_outer, is_shell, pair_round, tree_edges, first_of_edge, first_of_node, first_of_shell, opening_position, one_on, edge_count, node_count, shell_count}
-use Rattle.code_laws.proofs.Places.{select-placed, same-self, same-true}
+use Rattle.rank_select.proofs.Selects.{select-placed, selected_none}
 use Rattle.code_laws.proofs.Sound.{SoundParts, whole, all_places, in_one}
 use Rattle.code_laws.proofs.Mates.{first_at}
 use Rattle.code_laws.proofs.Edges.{half, closed, first_edge, before_kind, edge_of_kind, edge_within, laws, second}
 use Rattle.code_laws.proofs.Firsts.{root_first, node_first, shell_first}
 use Rattle.code_laws.proofs.Numbered.{round_below}
-
--- the bit of a kind with so many before it, as the function
-selected_none : (bit : Bool) (bits : List Bool) (j : ℕ) → rank bit bits (length bits) ≤ j → None ≡ select bit bits j
-unfolding select
-selected_none bit bits j h =
-    sym (find-none (λ p. same bit (slice_index_or bits p (not bit)) && (rank bit bits p == j)) 0 (length bits)
-    (λ q a b. false_from_ne_true _ (λ t.
-    let parts = and_parts (same bit (slice_index_or bits q (not bit))) (rank bit bits q == j) t in
-    let is : get_or bits q (not bit) ≡ bit = same-true bit _ parts.0 in
-    let up = rank_more_yes bit bits q (not bit) (omega arith) is in
-    let e = eqb-true _ _ parts.1 in
-    let m = rank-le-rank bit bits (q + 1) (length bits) (omega arith) in
-    omega (arith, up, e, m, h))))
-
-selected_some : (bit : Bool) (bits : List Bool) (j p : ℕ) → p < length bits → slice_index_or bits p (not bit) ≡ bit → rank bit bits p ≡ j → Some p ≡ select bit bits j
-unfolding select
-selected_some bit bits j p l is e =
-    sym (find-least (λ p. same bit (slice_index_or bits p (not bit)) && (rank bit bits p == j)) 0 (length bits) p (record {
-      from = omega arith;
-      within = omega arith;
-      passes = and_from _ _ (rw is (same-self bit)) (eq-eqb _ _ e);
-      before = λ q a b. false_from_ne_true _ (λ t.
-          let parts = and_parts (same bit (slice_index_or bits q (not bit))) (rank bit bits q == j) t in
-          let at : get_or bits q (not bit) ≡ bit = same-true bit _ parts.0 in
-          let up = rank_more_yes bit bits q (not bit) (omega arith) at in
-          let f = eqb-true _ _ parts.1 in
-          let m = rank-le-rank bit bits (q + 1) p (omega arith) in
-          omega (arith, up, e, f, m));
-    }))
-
-pub selected : (bit : Bool) (bits : List Bool) (j : ℕ) (o : Option ℕ) → IsSelected bit bits j o → o ≡ select bit bits j
-selected bit bits j None h = selected_none bit bits j h
-selected bit bits j (Some p) h = selected_some bit bits j p h.0 h.1 h.2
 
 some_none : (x : ℕ) → IsNone (Some x) → ⊥
 some_none x h = cc

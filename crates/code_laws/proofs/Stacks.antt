@@ -31,10 +31,11 @@ range-split test low (suc n) d =
       | inr n ↦ rw n more
     ])
 
-range-same : (p r : ℕ → Bool) (low n : ℕ) → ((x : ℕ) → low ≤ x → x < low + n → p x ≡ r x) → filter p (range_with_len low n) ≡ filter r (range_with_len low n)
-range-same p r low zero same = refl
-range-same p r low (suc n) same =
-    let more = range-same p r (low + 1) n (λ x a b. same x (omega arith) (omega arith)) in
+-- tests that agree over a range
+pub filter-same : (p r : ℕ → Bool) (low n : ℕ) → ((x : ℕ) → low ≤ x → x < low + n → p x ≡ r x) → filter p (range_with_len low n) ≡ filter r (range_with_len low n)
+filter-same p r low zero same = refl
+filter-same p r low (suc n) same =
+    let more = filter-same p r (low + 1) n (λ x a b. same x (omega arith) (omega arith)) in
     elim (cases_Bool (r low)) [
       | inl w ↦ rw w (rw (same low (omega arith) (omega arith) ∙ w) (ap (λ xs. low ∷ xs) more))
       | inr f ↦ rw f (rw (same low (omega arith) (omega arith) ∙ f) more)
@@ -44,7 +45,7 @@ range-same p r low (suc n) same =
 only-first : (test : ℕ → Bool) (x d : ℕ) → test x ≡ true → ((y : ℕ) → x < y → y < x + suc d → test y ≡ false) → filter test (range_with_len x (suc d)) ≡ x ∷ []
 only-first test x d w none = rw w (ap (λ xs. x ∷ xs) (filter-none test (x + 1) d (λ y a b. none y (omega arith) (omega arith))))
 
-same_tests : (x y : Bool) → (x ≡ true → y ≡ true) → (y ≡ true → x ≡ true) → x ≡ y
+pub same_tests : (x y : Bool) → (x ≡ true → y ≡ true) → (y ≡ true → x ≡ true) → x ≡ y
 same_tests true y f g = sym (f refl)
 same_tests false true f g = g refl
 same_tests false false f g = refl
@@ -75,7 +76,7 @@ module _ (bits : List Bool) (b : IsBalanced bits) where
       let up = open_up i l o in
       let here = above-round bits (i + 1) i b (omega arith) (omega arith) (record { above = λ q m n. let e : q ≡ i + 1 = omega arith in let f : excess bits q ≡ excess bits (i + 1) = ap (excess bits) e in omega (arith, ints, up, f) }) in
       rounds-split (i + 1) i (omega arith) here (λ y m n. absurd (omega arith))
-      ∙ ap (λ xs. xs ++ i ∷ []) (range-same (is_round bits (i + 1)) (is_round bits i) 0 i (λ x m n. same_tests _ _
+      ∙ ap (λ xs. xs ++ i ∷ []) (filter-same (is_round bits (i + 1)) (is_round bits i) 0 i (λ x m n. same_tests _ _
       (λ h. let a = round-above bits (i + 1) x (omega arith) h in above-round bits i x b (omega arith) (omega arith) (record { above = λ q u v. a.above q u (omega arith) }))
       (λ h.
       let a = round-above bits i x (omega arith) h in
@@ -124,7 +125,7 @@ module _ (bits : List Bool) (b : IsBalanced bits) where
         let w = arc.level in
         let d : excess bits j ≤ℤ (excess bits (j + 1) +ℤ pos 1) = excess-step bits j within in
         omega (arith, ints, u, v, w, d)))
-        ∙ ap (λ xs. xs ++ i ∷ []) (range-same (is_round bits j) (is_round bits i) 0 i (λ x m n. before_arc j x (omega arith) (omega arith) (omega arith)))
+        ∙ ap (λ xs. xs ++ i ∷ []) (filter-same (is_round bits j) (is_round bits i) 0 i (λ x m n. before_arc j x (omega arith) (omega arith) (omega arith)))
 
     pub rounds-past : rounds bits (j + 1) ≡ rounds bits i
     rounds-past =
@@ -143,7 +144,7 @@ module _ (bits : List Bool) (b : IsBalanced bits) where
           | inr same ↦ let e : y ≡ i = omega arith in let f : excess bits y ≡ excess bits i = ap (excess bits) e in omega (arith, ints, v, w, f)
         ])))
         ∙ append-nil (filter (is_round bits (j + 1)) (range_with_len 0 i))
-        ∙ range-same (is_round bits (j + 1)) (is_round bits i) 0 i (λ x m n. before_arc (j + 1) x (omega arith) (omega arith) (omega arith)) in
+        ∙ filter-same (is_round bits (j + 1)) (is_round bits i) 0 i (λ x m n. before_arc (j + 1) x (omega arith) (omega arith) (omega arith)) in
         subst (λ n. filter (is_round bits (j + 1)) (range_with_len 0 n) ≡ rounds bits i) e split
 
   -- a place that opens: its number is the last one from there on

@@ -4,13 +4,14 @@ use Rattle.std.proofs.Common.{◌≡◌, ◌≢◌, ℕ, zero, suc, ◌+◌, ◌
 use Rattle.std.specs.List.{range_with_len}
 use Rattle.std.proofs.lemmas.Bool.{cases_lt, cases_Bool, cases_eq, and_parts, and_from, eqb-true, eq-eqb, ne_eqb, both_ways, and_left, and_right}
 use Rattle.bit_words.specs.Bits.{rank, excess, same}
+use Rattle.rank_select.proofs.Selects.{cases_kind}
 use Rattle.parens.proofs.Balances.{IsBalanced}
 use Rattle.parens.proofs.Arcs.{IsArc}
 use Rattle.code_laws.specs.Code.{Code, is_tree, parens, place, mate, after, step, component_of, component_count, start_of, end_of}
 use Rattle.code_laws.specs.Numbers.{pair_round}
 use Rattle.code_laws.specs.Orbits.{same_number, is_beside, beside, orbit}
 use Rattle.code_laws.proofs.Apart.{number_round, none_round, apart_inside, apart_after, apart_before, number_past, number_first, number_end}
-use Rattle.code_laws.proofs.Places.{cases_kind, IsMate, place_before, place_next, place_other, place_after, over_other, over_mate}
+use Rattle.code_laws.proofs.Places.{IsMate, place_before, place_next, place_other, place_after, over_other, over_mate}
 use Rattle.code_laws.proofs.Walks.{IsAfter, Goes, walk-filter}
 
 -- the component that a position is in

@@ -7,7 +7,7 @@ use Rattle.bit_words.specs.Bits.{rank, same}
 use Rattle.bit_words.proofs.Ranks.{rank-zero}
 use Rattle.code_laws.specs.Code.{is_first, parens}
 use Rattle.code_laws.specs.Tour.{picked, code_of}
-use Rattle.code_laws.proofs.Places.{same-self}
+use Rattle.rank_select.proofs.Selects.{same-self}
 
 rank-cons : (bit b : Bool) (bits : List Bool) (i : ℕ) → rank bit (b ∷ bits) (suc i) ≡ (if same bit b then 1 else 0) + rank bit bits i
 unfolding rank

@@ -1,30 +1,16 @@
 //! The rings and components of small maps.
 
-ghost use Rattle.std.specs.Prelude.{◌≡◌, ◌&&◌, ◌*◌, IsTrue, length};
-ghost use Rattle.plane_model.specs.Rows.{rows_of};
-ghost use Rattle.std.specs.List.{list_all};
-ghost use Rattle.plane_model.specs.InRange.{is_edge_in_range, is_face_id, is_id, is_in_range, is_none_or};
-ghost use Rattle.topo_base.specs.SignedEdge.{is_signed_edge};
+ghost use Rattle.std.specs.Prelude.{◌≡◌, ◌*◌, length};
 ghost use Rattle.euler_check.specs.Parts.{AreParts};
 
 use crate::{Numbering, Parts, first_mixed_ring, number_components, number_rings, parts};
-use plane_model::{EdgeRow, FaceRow, NodeRow, Tables};
+use plane_model::Tables;
 use rotation_check::{CheckFault, Rotation, check};
 use std::alloc::{AllocError, Global};
 use std::process::Abort;
 use std::test::Fail;
-use topo_base::{IdNumber, LARGEST_ID, Refusal, SignedNumber};
-
-/// A node: its id and the face that contains it.
-type Node = (IdNumber, Option<IdNumber>);
-
-/// An edge: its id, its start and end, its left and right next, and the faces on its left and right.
-type Edge = (
-    IdNumber,
-    (IdNumber, IdNumber),
-    (SignedNumber, SignedNumber),
-    (IdNumber, IdNumber),
-);
+use topo_base::{IdNumber, Refusal};
+use worked_maps::{Edge, Node, are_in_range, tables};
 
 const NODES: [Node; 3] = [(1, None), (2, None), (3, None)];
 
@@ -33,103 +19,6 @@ const TRIANGLE: [Edge; 3] = [
     (2, (2, 3), (3, -1), (1, 0)),
     (3, (3, 1), (1, -2), (1, 0)),
 ];
-
-fn is_id(id: IdNumber) -> bool
-    ensures { result ≡ is_id id }
-{
-    id >= 1 && id <= LARGEST_ID
-}
-
-fn is_face_id(id: IdNumber) -> bool
-    ensures { result ≡ is_face_id id }
-{
-    id <= LARGEST_ID
-}
-
-fn is_signed_edge(number: SignedNumber) -> bool
-    ensures { result ≡ is_signed_edge number }
-{
-    number != 0 && number.unsigned_abs() <= LARGEST_ID
-}
-
-fn are_nodes_in_range(nodes: &[NodeRow]) -> bool
-    ensures { result ≡ list_all (λ r. is_id r.id && is_none_or is_face_id r.face) nodes.now }
-{
-    nodes
-        .iter()
-        .all(|node| is_id(node.id) && node.face.is_none_or(is_face_id))
-}
-
-fn is_edge_in_range(edge: &EdgeRow) -> bool
-    ensures { result ≡ is_edge_in_range edge.now }
-{
-    is_id(edge.id)
-        && is_id(edge.start)
-        && is_id(edge.end)
-        && is_signed_edge(edge.next_left)
-        && is_signed_edge(edge.next_right)
-        && is_face_id(edge.left_face)
-        && is_face_id(edge.right_face)
-}
-
-fn are_edges_in_range(edges: &[EdgeRow]) -> bool
-    ensures { result ≡ list_all is_edge_in_range edges.now }
-{
-    edges.iter().all(|edge| is_edge_in_range(edge))
-}
-
-fn are_faces_in_range(faces: &[FaceRow]) -> bool
-    ensures { result ≡ list_all (λ r. is_face_id r.id) faces.now }
-{
-    faces.iter().all(|face| is_face_id(face.id))
-}
-
-/// Whether tables without regions and members are in range.
-fn are_in_range(tables: &Tables) -> bool
-    ensures { IsTrue result → IsTrue (is_in_range (rows_of tables.now)) }
-{
-    if !are_nodes_in_range(&tables.nodes)
-        || !are_edges_in_range(&tables.edges)
-        || !are_faces_in_range(&tables.faces)
-    {
-        return false;
-    }
-    if !tables.regions.is_empty() || !tables.members.is_empty() {
-        return false;
-    }
-    tables.nodes.len() <= 16_777_216
-        && tables.edges.len() <= 16_777_216
-        && tables.faces.len() <= 16_777_216
-}
-
-fn tables(
-    alloc: Global,
-    nodes: &[Node],
-    edges: &[Edge],
-    faces: &[IdNumber],
-) -> Result<Tables, AllocError> {
-    Ok(Tables {
-        nodes: nodes
-            .iter()
-            .map(|&(id, face)| NodeRow { id, face })
-            .collect(alloc)?,
-        edges: edges
-            .iter()
-            .map(|&(id, (start, end), (next_left, next_right), (left_face, right_face))| EdgeRow {
-                id,
-                start,
-                end,
-                next_left,
-                next_right,
-                left_face,
-                right_face,
-            })
-            .collect(alloc)?,
-        faces: faces.iter().map(|&id| FaceRow { id }).collect(alloc)?,
-        regions: Vec::new(alloc),
-        members: Vec::new(alloc),
-    })
-}
 
 fn checked<'a>(
     alloc: Global,

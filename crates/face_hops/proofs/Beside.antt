@@ -13,6 +13,7 @@ use Rattle.plane_model.specs.Rotation.{is_face, has_faces, is_face_or_none, node
 use Rattle.plane_model.specs.Faces.{is_placed, is_outer, outer_rings}
 use Rattle.plane_model.specs.Lists.{holes, shell, ring_if_some, face_edges, adjacent}
 use Rattle.plane_model.proofs.SetLaws.{same_edges, same_is, same_self}
+use Rattle.plane_model.proofs.Sums.{into_flat, from_flat}
 use Rattle.plane_model.proofs.RotationOrbits.{reverse-reverse, signed-reverse}
 use Rattle.placement_laws.specs.Placing.{IsLabelledRotation, IsPlacing}
 use Rattle.placement_laws.proofs.Parts.{HasParts, parts_of, ring_name, ring_name-on, ring_name-same, ring_name-there, ring_alike, ring_within, ring_side, rings-signed}
@@ -21,20 +22,6 @@ use Rattle.placement_laws.proofs.Found.{either_found}
 use Rattle.placement_laws.proofs.Tables.{face_0_none}
 
 -- lists
-
-into_flat : (part : ℤ → List ℤ) (ns : List ℤ) (n x : ℤ) → has_edge ns n ≡ true → has_edge (part n) x ≡ true → has_edge (flat_map part ns) x ≡ true
-into_flat part [] n x h k = absurd (both_ways false refl h)
-into_flat part (y ∷ ys) n x h k = elim (or_cases (same_edge n y) (has_edge ys n) h) [
-  | inl is ↦ in_front same_edges (part y) (flat_map part ys) x (subst (λ z. has_edge (part z) x ≡ true) (same_is n y is) k)
-  | inr more ↦ in_back same_edges (part y) (flat_map part ys) x (into_flat part ys n x more k)
-]
-
-pub from_flat : (part : ℤ → List ℤ) (ns : List ℤ) (x : ℤ) → has_edge (flat_map part ns) x ≡ true → (n : ℤ) × (has_edge ns n ≡ true) × (has_edge (part n) x ≡ true)
-from_flat part [] x h = absurd (both_ways false refl h)
-from_flat part (y ∷ ys) x h = elim (in_either same_edges (part y) (flat_map part ys) x h) [
-  | inl here ↦ (y, or_left _ _ (same_self y), here)
-  | inr more ↦ let there = from_flat part ys x more in (there.0, or_right _ _ there.1, there.2)
-]
 
 pub found : (p : ℤ → Bool) (xs : List ℤ) (x : ℤ) → find p xs ≡ Some x → (has_edge xs x ≡ true) × (p x ≡ true)
 found p [] x h = cc

@@ -4,6 +4,7 @@ ghost use Rattle.std.specs.Prelude.{◌≡◌, ◌<◌, ◌≤◌, length};
 
 use crate::{Found, hop_walk};
 use bit_words::Steps;
+use image_words::{bytes_of, island};
 use pemb_file::open;
 use scratch_region::Region;
 use std::alloc::Global;
@@ -11,81 +12,6 @@ use std::marker::Brand;
 use std::sync::ledger::{Blank, Ledger};
 use std::test::Fail;
 use topo_base::{FaceId, IdNumber};
-
-/// The words of the file of a triangle with a closed edge in it, 4 at node 4, round face 2, and node 5 in face 2.
-/// Face 1 is in region 2, which lies in region 1, and face 2 is in region 1.
-fn nested_words() -> [u64; 68] {
-    [
-        5715155150441366864,
-        2,
-        15871800027431055987,
-        6222024572385703295,
-        17804374802572391335,
-        5745306103414178655,
-        4,
-        2,
-        2,
-        1,
-        2,
-        2,
-        0,
-        0,
-        0,
-        27,
-        17179869184,
-        3,
-        8589934592,
-        0,
-        5,
-        8589934592,
-        0,
-        25769803776,
-        8,
-        0,
-        31,
-        21474836480,
-        2305843009213693953,
-        216172782113783808,
-        18014398509481984,
-        1407374883553280,
-        0,
-        17433,
-        5,
-        8589934592,
-        2,
-        15,
-        17179869184,
-        2305843009213693953,
-        216172782113783808,
-        18014398509481984,
-        0,
-        1616,
-        0,
-        0,
-        3,
-        8589934592,
-        4611686018427387905,
-        0,
-        4,
-        0,
-        0,
-        4294967296,
-        4294967296,
-        2,
-        3,
-        8589934592,
-        0,
-        3,
-        8589934592,
-        4611686018427387905,
-        0,
-        4,
-        0,
-        0,
-        8589934592,
-        1,
-    ]
-}
 
 /// The words of the file of a square grid of four cells by four, with a closed edge in two cells and a node in one.
 fn grid_words() -> [u64; 152] {
@@ -245,15 +171,6 @@ fn grid_words() -> [u64; 152] {
     ]
 }
 
-/// The bytes of these words, the lowest byte of each first.
-fn bytes(alloc: Global, words: &[u64]) -> Result<Vec<u8>, Fail> {
-    let mut bytes = Vec::new(alloc);
-    for word in words.iter() {
-        bytes.extend_from_slice(&word.to_le_bytes())?;
-    }
-    Ok(bytes)
-}
-
 /// What came of looking for a walk, with its first four steps.
 #[derive(Clone, Copy, Debug, PartialEq, Eq)]
 enum Seen {
@@ -300,7 +217,7 @@ fn walk_between<C: Ledger>(
 #[test]
 fn walks_over_the_nested_island(rt: HostRuntime) -> Result<(), Fail> {
     let alloc = rt.alloc();
-    let bytes = bytes(alloc, &nested_words())?;
+    let bytes = bytes_of(alloc, &island())?;
     let faces = [Some(FaceId(0)), Some(FaceId(1)), Some(FaceId(2)), None];
     assert_eq!(rt;
         walk_between::<Brand>(alloc, &bytes, Blank::new(1), 0, 2, &mut [7; 6]),
@@ -330,7 +247,7 @@ fn walks_over_the_nested_island(rt: HostRuntime) -> Result<(), Fail> {
 #[test]
 fn walks_round_the_grid_by_face_0(rt: HostRuntime) -> Result<(), Fail> {
     let alloc = rt.alloc();
-    let bytes = bytes(alloc, &grid_words())?;
+    let bytes = bytes_of(alloc, &grid_words())?;
     let faces = [Some(FaceId(1)), Some(FaceId(0)), Some(FaceId(16)), None];
     assert_eq!(rt;
         walk_between::<Brand>(alloc, &bytes, Blank::new(1), 1, 16, &mut [7; 38]),

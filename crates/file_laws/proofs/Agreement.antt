@@ -9,7 +9,8 @@ use Rattle.plane_model.specs.PlaneMap.{map_of, signed_edges, next as next_edge, 
 use Rattle.code_laws.specs.Code.{Code, is_tree, mate, positions, after, next, turn}
 use Rattle.code_laws.specs.Numbers.{edge_of}
 use Rattle.code_laws.specs.Laws.{MateLaws}
-use Rattle.code_laws.proofs.Places.{cases_kind, over_other, over_mate}
+use Rattle.rank_select.proofs.Selects.{cases_kind}
+use Rattle.code_laws.proofs.Places.{over_other, over_mate}
 use Rattle.code_laws.proofs.Edges.{one_edge, edge_there}
 use Rattle.id_names.specs.Names.{number_of, is_names}
 use Rattle.id_names.proofs.NumberLaws.{number_of-at, names_from_test}

@@ -29,7 +29,7 @@ use Rattle.file_laws.proofs.Consistent.{consistent_of, outer_of}
 use Rattle.file_laws.proofs.Sizes.{edges_many, regions_many}
 
 -- a filter that all pass
-kept_all : (p : ℕ → Bool) (xs : List ℕ) → ((x : ℕ) → has xs x ≡ true → p x ≡ true) → filter p xs ≡ xs
+pub kept_all : (p : ℕ → Bool) (xs : List ℕ) → ((x : ℕ) → has xs x ≡ true → p x ≡ true) → filter p xs ≡ xs
 kept_all p [] each = refl
 kept_all p (x ∷ xs) each =
     let here = each x (or_left _ _ (eq-eqb x x refl)) in

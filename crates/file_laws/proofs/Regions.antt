@@ -15,10 +15,10 @@ use Rattle.plane_model.specs.Regions.{parent, upward, parents, is_region, is_reg
 use Rattle.plane_model.proofs.Sorting.{rising-has}
 use Rattle.bit_words.specs.Bits.{rank, select}
 use Rattle.parens.specs.Matching.{is_open, close_of, is_from, is_round, innermost}
+use Rattle.rank_select.proofs.Selects.{select-placed}
 use Rattle.parens.proofs.Greatest.{greatest-find}
 use Rattle.code_laws.proofs.Apart.{fewer}
 use Rattle.code_laws.proofs.Edges.{half}
-use Rattle.code_laws.proofs.Places.{select-placed}
 use Rattle.id_names.specs.Names.{number_of}
 use Rattle.id_names.proofs.NumberLaws.{number_of-at}
 use Rattle.file_laws.specs.Contents.{Contents}

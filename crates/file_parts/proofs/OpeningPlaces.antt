@@ -8,12 +8,12 @@ use Rattle.std.proofs.lemmas.List.{ext_get_or, get_or-set_same, get_or-set_other
 use Rattle.std.proofs.lemmas.List.FromFn.{get_or-map-range_with_len}
 use Rattle.bit_words.specs.Bits.{rank, excess}
 use Rattle.bit_words.proofs.Ranks.{rank_both, rank_more_yes, rank-le-rank}
+use Rattle.rank_select.proofs.Selects.{select-placed}
 use Rattle.min_max_tree.proofs.Falls.{excess-ranks}
 use Rattle.parens.specs.Matching.{is_open, innermost}
 use Rattle.parens.proofs.Balances.{IsBalanced}
 use Rattle.parens.proofs.Arcs.{IsLastAt, last_at, excess-zero, open_where_up}
 use Rattle.parens.proofs.Rounds.{last-innermost}
-use Rattle.code_laws.proofs.Places.{select-placed}
 use Rattle.code_laws.proofs.Apart.{fewer}
 use Rattle.code_laws.proofs.Edges.{closed}
 use Rattle.region_tree.specs.Nesting.{opening, parent_number}

@@ -5,7 +5,7 @@ use Rattle.std.proofs.lemmas.List.FromFn.{length-map-range_with_len, get_or-map-
 use Rattle.code_laws.specs.Code.{Code, code_with, is_first, parens, component_count}
 use Rattle.code_laws.specs.SeqFault.{is_sound}
 use Rattle.code_laws.specs.Tour.{picked, code_of}
-use Rattle.code_laws.proofs.Places.{select-placed}
+use Rattle.rank_select.proofs.Selects.{select-placed}
 use Rattle.code_laws.proofs.Sound.{SoundParts, sound_parts, all_places, last_start}
 use Rattle.code_laws.proofs.Mates.{first_at}
 use Rattle.code_laws.proofs.Walked.{picked-at, length-picked}

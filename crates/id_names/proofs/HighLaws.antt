@@ -12,10 +12,10 @@ use Rattle.bit_words.specs.Bits.{rank, select, same}
 use Rattle.bit_words.specs.Digits.{digits}
 use Rattle.id_names.specs.Making.{bucket, high_bits, low_parts}
 use Rattle.id_names.specs.Rising.{high_part, rising_at, zeros_at}
+use Rattle.rank_select.proofs.Selects.{selected}
 use Rattle.id_names.proofs.Counting.{count_yes, count_no}
 use Rattle.id_names.proofs.DigitBounds.{power_few}
 use Rattle.id_names.proofs.HighBits.{range_more, quotient_rises}
-use Rattle.id_names.proofs.Selects.{selected}
 use Rattle.id_names.proofs.SortedIds.{id_in, AreRising, entry_id, length-entry_ids, counts}
 use Rattle.id_names.specs.Numbered.{entry_ids}
 use Rattle.id_names.specs.declared.sorted.Named.{Named}

@@ -4,7 +4,6 @@ pub mod Marking
 pub mod Sweeping
 pub mod Counting
 pub mod SortedIds
-pub mod Selects
 pub mod HighParts
 pub mod DigitBounds
 pub mod Ids

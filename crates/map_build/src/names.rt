@@ -1,10 +1,9 @@
 //! The ids of what a walk comes to, by number.
 
-ghost use Rattle.std.specs.Prelude.{◌≡◌, length, filter, IfErr, IfOk, IsTrue};
+ghost use Rattle.std.specs.Prelude.{◌≡◌, length, IfErr, IfOk, IsTrue};
 ghost use Rattle.plane_model.specs.InRange.{is_in_range};
 ghost use Rattle.plane_model.specs.Rows.{rows_of};
 ghost use Rattle.plane_model.specs.Consistent.{is_consistent};
-ghost use Rattle.code_laws.specs.Code.{component_count};
 ghost use Rattle.code_laws.specs.Numbers.{tree_edges};
 ghost use Rattle.map_build.specs.Tours.{IsWalkOf, code_of_tour};
 ghost use Rattle.map_build.specs.declared.fault.BuildFault.TheVariants as faults;
@@ -13,6 +12,7 @@ ghost use Rattle.map_build.specs.Named.{AreNamesOf};
 use crate::by_number::{directions, edge_ids, face_ids, node_ids};
 use crate::checked::Walked;
 use crate::fault::BuildFault;
+use bit_words::ones;
 use plane_model::Tables;
 use spanning_pair::Tour;
 use std::alloc::Global;
@@ -27,13 +27,6 @@ pub(crate) struct Names {
     pub(crate) forward: Vec<bool>,
     pub(crate) nodes: Vec<IdNumber>,
     pub(crate) faces: Vec<IdNumber>,
-}
-
-/// How many of these bits are set.
-fn ones(bits: &[bool]) -> usize
-    ensures { result ≡ length (filter (λ bit. bit) bits.now) }
-{
-    bits.iter().filter(|bit| **bit).count()
 }
 
 /// How many edges the spanning trees have.

@@ -1,39 +1,19 @@
 //! Images of small maps.
 
-ghost use Rattle.std.specs.Prelude.{◌≡◌, ◌<◌, ◌&&◌, IsTrue};
-ghost use Rattle.std.specs.List.{list_all};
-ghost use Rattle.topo_base.specs.SignedEdge.{is_signed_edge};
-ghost use Rattle.plane_model.specs.InRange.{is_edge_in_range, is_face_id, is_id, is_in_range, is_none_or};
-ghost use Rattle.plane_model.specs.Rows.{rows_of};
+ghost use Rattle.std.specs.Prelude.{◌≡◌, ◌<◌};
 
 use crate::{BuildFault, build};
 use bit_words::Steps;
+use image_words::{bytes_of, island, triangle};
 use map_maker::grid;
 use pemb_file::{Counts, open};
-use plane_model::{EdgeRow, FaceRow, MemberRow, NodeRow, RegionRow, Tables};
-use std::alloc::{AllocError, Global};
+use plane_model::Tables;
+use std::alloc::Global;
 use std::marker::Brand;
-use std::process::Abort;
 use std::sync::ledger::{Blank, Ledger};
 use std::test::Fail;
-use topo_base::{IdNumber, LARGEST_ID, Refusal, SignedNumber, Table};
-
-/// A node: its id and the face that contains it.
-type Node = (IdNumber, Option<IdNumber>);
-
-/// An edge: its id, its start and end, its left and right next, and the faces on its left and right.
-type Edge = (
-    IdNumber,
-    (IdNumber, IdNumber),
-    (SignedNumber, SignedNumber),
-    (IdNumber, IdNumber),
-);
-
-/// A region: its id and its parent.
-type Region = (IdNumber, Option<IdNumber>);
-
-/// A member: its region and its face.
-type Member = (IdNumber, IdNumber);
+use topo_base::{IdNumber, Refusal, Table};
+use worked_maps::{Edge, Member, Node, Region, are_in_range, tables, tables_with_regions};
 
 /// The edges of a triangle whose inner face is 1.
 const TRIANGLE: [Edge; 3] = [
@@ -64,259 +44,6 @@ const SIX_TRIANGLES: [Edge; 18] = [
     (18, (18, 16), (16, -17), (6, 0)),
 ];
 
-/// The words of a triangle's file.
-const WORDS: [u64; 54] = [
-    0x4f504f54424d4550,
-    2,
-    0xa1bf1ed24ca70269,
-    0x9821e4f8115845eb,
-    0x4551c61015007f17,
-    0xfcf998d9c03e5ac2,
-    3,
-    2,
-    1,
-    0,
-    0,
-    0,
-    0,
-    0,
-    0,
-    27,
-    4 << 32,
-    3,
-    2 << 32,
-    0,
-    1,
-    1 << 32,
-    0,
-    6 << 32,
-    0,
-    7,
-    3 << 32,
-    0x4000000000000001,
-    3 << 58,
-    0,
-    33,
-    0,
-    0,
-    7,
-    3 << 32,
-    0x4000000000000001,
-    3 << 58,
-    0,
-    24,
-    0,
-    0,
-    1,
-    1 << 32,
-    1,
-    0,
-    0,
-    0,
-    0,
-    0,
-    0,
-    0,
-    0,
-    0,
-    0,
-];
-
-/// The words behind the digest in the file of a triangle with a closed edge and a node inside it, and two regions.
-const ISLAND_WORDS: [u64; 62] = [
-    4,
-    2,
-    2,
-    1,
-    2,
-    2,
-    0,
-    0,
-    0,
-    27,
-    4 << 32,
-    3,
-    2 << 32,
-    0,
-    5,
-    2 << 32,
-    0,
-    6 << 32,
-    8,
-    0,
-    31,
-    5 << 32,
-    0x2000000000000001,
-    3 << 56,
-    1 << 54,
-    5 << 48,
-    0,
-    17433,
-    5,
-    2 << 32,
-    2,
-    15,
-    4 << 32,
-    0x2000000000000001,
-    3 << 56,
-    1 << 54,
-    0,
-    1616,
-    0,
-    0,
-    3,
-    2 << 32,
-    0x4000000000000001,
-    0,
-    4,
-    0,
-    0,
-    1 << 32,
-    1 << 32,
-    2,
-    3,
-    2 << 32,
-    0,
-    3,
-    2 << 32,
-    0x4000000000000001,
-    0,
-    4,
-    0,
-    0,
-    2 << 32,
-    1,
-];
-
-fn is_id(id: IdNumber) -> bool
-    ensures { result ≡ is_id id }
-{
-    id >= 1 && id <= LARGEST_ID
-}
-
-fn is_face_id(id: IdNumber) -> bool
-    ensures { result ≡ is_face_id id }
-{
-    id <= LARGEST_ID
-}
-
-fn is_signed_edge(number: SignedNumber) -> bool
-    ensures { result ≡ is_signed_edge number }
-{
-    number != 0 && number.unsigned_abs() <= LARGEST_ID
-}
-
-fn are_nodes_in_range(nodes: &[NodeRow]) -> bool
-    ensures { result ≡ list_all (λ r. is_id r.id && is_none_or is_face_id r.face) nodes.now }
-{
-    nodes
-        .iter()
-        .all(|node| is_id(node.id) && node.face.is_none_or(is_face_id))
-}
-
-fn is_edge_in_range(edge: &EdgeRow) -> bool
-    ensures { result ≡ is_edge_in_range edge.now }
-{
-    is_id(edge.id)
-        && is_id(edge.start)
-        && is_id(edge.end)
-        && is_signed_edge(edge.next_left)
-        && is_signed_edge(edge.next_right)
-        && is_face_id(edge.left_face)
-        && is_face_id(edge.right_face)
-}
-
-fn are_edges_in_range(edges: &[EdgeRow]) -> bool
-    ensures { result ≡ list_all is_edge_in_range edges.now }
-{
-    edges.iter().all(|edge| is_edge_in_range(edge))
-}
-
-fn are_faces_in_range(faces: &[FaceRow]) -> bool
-    ensures { result ≡ list_all (λ r. is_face_id r.id) faces.now }
-{
-    faces.iter().all(|face| is_face_id(face.id))
-}
-
-fn are_regions_in_range(regions: &[RegionRow]) -> bool
-    ensures { result ≡ list_all (λ r. is_id r.id && is_none_or is_id r.parent) regions.now }
-{
-    regions.iter().all(|region| is_id(region.id) && region.parent.is_none_or(is_id))
-}
-
-fn are_members_in_range(members: &[MemberRow]) -> bool
-    ensures { result ≡ list_all (λ r. is_id r.region && is_face_id r.face) members.now }
-{
-    members
-        .iter()
-        .all(|member| is_id(member.region) && is_face_id(member.face))
-}
-
-/// Whether tables are in range.
-fn are_in_range(tables: &Tables) -> bool
-    ensures { IsTrue result → IsTrue (is_in_range (rows_of tables.now)) }
-{
-    if !are_nodes_in_range(&tables.nodes)
-        || !are_edges_in_range(&tables.edges)
-        || !are_faces_in_range(&tables.faces)
-        || !are_regions_in_range(&tables.regions)
-        || !are_members_in_range(&tables.members)
-    {
-        return false;
-    }
-    tables.nodes.len() <= 16_777_216
-        && tables.edges.len() <= 16_777_216
-        && tables.faces.len() <= 16_777_216
-        && tables.regions.len() <= 16_777_216
-        && tables.members.len() <= 16_777_217
-}
-
-fn tables(
-    alloc: Global,
-    nodes: &[Node],
-    edges: &[Edge],
-    faces: &[IdNumber],
-    regions: &[Region],
-    members: &[Member],
-) -> Result<Tables, AllocError> {
-    Ok(Tables {
-        nodes: nodes
-            .iter()
-            .map(|&(id, face)| NodeRow { id, face })
-            .collect(alloc)?,
-        edges: edges
-            .iter()
-            .map(|&(id, (start, end), (next_left, next_right), (left_face, right_face))| EdgeRow {
-                id,
-                start,
-                end,
-                next_left,
-                next_right,
-                left_face,
-                right_face,
-            })
-            .collect(alloc)?,
-        faces: faces.iter().map(|&id| FaceRow { id }).collect(alloc)?,
-        regions: regions
-            .iter()
-            .map(|&(id, parent)| RegionRow { id, parent })
-            .collect(alloc)?,
-        members: members
-            .iter()
-            .map(|&(region, face)| MemberRow { region, face })
-            .collect(alloc)?,
-    })
-}
-
-/// The bytes of these words, the lowest byte of each first.
-fn bytes_of(alloc: Global, words: &[u64]) -> Result<Vec<u8>, Fail> {
-    let mut bytes = Vec::new(alloc);
-    for word in words {
-        bytes.extend_from_slice(&word.to_le_bytes())?;
-    }
-    Ok(bytes)
-}
-
 /// The image of these tables.
 fn built_of(alloc: Global, tables: &Tables) -> Result<Result<Vec<u8>, BuildFault>, Fail> {
     if !are_in_range(tables) {
@@ -332,7 +59,7 @@ fn built(
     edges: &[Edge],
     faces: &[IdNumber],
 ) -> Result<Result<Vec<u8>, BuildFault>, Fail> {
-    let tables = tables(alloc, nodes, edges, faces, &[], &[])?;
+    let tables = tables(alloc, nodes, edges, faces)?;
     built_of(alloc, &tables)
 }
 
@@ -345,7 +72,7 @@ fn island_built(
     let nodes = [(1, None), (2, None), (3, None), (4, None), (5, Some(2))];
     let [first, second, third] = TRIANGLE;
     let edges = [first, second, third, (4, (4, 4), (4, -4), (2, 1))];
-    let tables = tables(alloc, &nodes, &edges, &[1, 2], regions, members)?;
+    let tables = tables_with_regions(alloc, &nodes, &edges, &[1, 2], regions, members)?;
     built_of(alloc, &tables)
 }
 
@@ -381,7 +108,7 @@ fn counts(
 fn a_triangle_builds_its_words(rt: HostRuntime) -> Result<(), Fail> {
     let alloc = rt.alloc();
     let nodes = [(1, None), (2, None), (3, None)];
-    let want = bytes_of(alloc, &WORDS)?;
+    let want = bytes_of(alloc, &triangle())?;
     let Ok(image) = built(alloc, &nodes, &TRIANGLE, &[1])? else {
         return Err(Fail::new("no image"));
     };
@@ -402,8 +129,8 @@ fn an_island_in_two_regions_builds_its_words(rt: HostRuntime) -> Result<(), Fail
     let Ok(image) = island_built(alloc, &regions, &[(1, 2), (2, 1)])? else {
         return Err(Fail::new("no image"));
     };
-    let want = bytes_of(alloc, &ISLAND_WORDS)?;
-    assert!(rt; image.get(48..) == Some(want.as_slice()));
+    let want = bytes_of(alloc, &island())?;
+    assert!(rt; image.as_slice() == want.as_slice());
     let cycle = Refusal::RegionCycle { region: 1 };
     assert_eq!(rt;
         island_built(alloc, &[(1, Some(2)), (2, Some(1))], &[])?.err(),

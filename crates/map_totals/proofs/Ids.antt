@@ -1,7 +1,7 @@
 -- The nodes and faces of a file's map are those that the file names, in another order: so sums over them agree.
 use Rattle.std.specs.Prelude.{not, filter, map, slice_index, unwrap_or, sum_by}
-use Rattle.std.proofs.Common.{◌≡◌, ℕ, ◌<◌, Bool, true, List, [], ◌∷◌, length, refl, ap, sym, ◌∙◌, arith, ◌==◌}
-use Rattle.std.proofs.lemmas.Bool.{eq-eqb, ne_eqb, or_left, or_right}
+use Rattle.std.proofs.Common.{◌≡◌, ℕ, ◌<◌, Bool, true, List, length, refl, ap, sym, ◌∙◌, arith, ◌==◌}
+use Rattle.std.proofs.lemmas.Bool.{ne_eqb, or_right}
 use Rattle.std.proofs.lemmas.List.Sorted.{sum_by-IsPermutation}
 use Rattle.plane_model.specs.declared.rows.NodeRow.{NodeRow}
 use Rattle.plane_model.specs.declared.rows.FaceRow.{FaceRow}
@@ -16,20 +16,13 @@ use Rattle.file_laws.specs.Lawful.{is_whole}
 use Rattle.file_laws.proofs.Lists.{keys_kept, has-index, index-has}
 use Rattle.file_laws.proofs.Whole.{WholeParts, whole_parts}
 use Rattle.file_laws.proofs.Rotation.{face_ids, face_there}
+use Rattle.file_laws.proofs.FiveCounts.{kept_all}
 use Rattle.navigate.specs.Bound.{map_with}
 use Rattle.navigate.proofs.Facts.{node_test}
 
 -- a sum does not depend on the order
 sum_rising : (f : ℕ → ℕ) (xs : List ℕ) → sum_by f (rising xs) ≡ sum_by f xs
 sum_rising f xs = sum_by-IsPermutation f xs (rising xs) (rising-permutation xs)
-
--- a filter that all pass
-kept_all : (p : ℕ → Bool) (xs : List ℕ) → ((x : ℕ) → has xs x ≡ true → p x ≡ true) → filter p xs ≡ xs
-kept_all p [] each = refl
-kept_all p (x ∷ xs) each =
-    let here = each x (or_left _ _ (eq-eqb x x refl)) in
-    let more = kept_all p xs (λ y there. each y (or_right _ _ there)) in
-    rw here (ap (λ ys. x ∷ ys) more)
 
 pub nodes_sum : (c : Contents) (f : ℕ → ℕ) → sum_by f (map_with c).nodes.keys ≡ sum_by f c.nodes
 nodes_sum c f =

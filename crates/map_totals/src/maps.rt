@@ -1,85 +1,14 @@
 //! Maps for tests.
 
-ghost use Rattle.std.specs.Prelude.{◌≡◌, ◌≤◌, ◌&&◌, IfOk, IsTrue};
-ghost use Rattle.std.specs.List.{list_all};
-ghost use Rattle.topo_base.specs.SignedEdge.{is_signed_edge};
-ghost use Rattle.plane_model.specs.InRange.{is_edge_in_range, is_face_id, is_id, is_in_range, is_none_or};
-ghost use Rattle.plane_model.specs.Rows.{rows_of};
+ghost use Rattle.std.specs.Prelude.{◌≤◌};
 
 use map_build::build;
 use map_maker::grid;
 use plane_model::{EdgeRow, FaceRow, NodeRow, Tables};
 use std::alloc::{AllocError, Global};
 use std::test::Fail;
-use topo_base::{IdNumber, LARGEST_ID, SignedNumber};
-
-fn is_id(id: IdNumber) -> bool
-    ensures { result ≡ is_id id }
-{
-    id >= 1 && id <= LARGEST_ID
-}
-
-fn is_face_id(id: IdNumber) -> bool
-    ensures { result ≡ is_face_id id }
-{
-    id <= LARGEST_ID
-}
-
-fn is_signed_edge(number: SignedNumber) -> bool
-    ensures { result ≡ is_signed_edge number }
-{
-    number != 0 && number.unsigned_abs() <= LARGEST_ID
-}
-
-fn are_nodes_in_range(nodes: &[NodeRow]) -> bool
-    ensures { result ≡ list_all (λ r. is_id r.id && is_none_or is_face_id r.face) nodes.now }
-{
-    nodes
-        .iter()
-        .all(|node| is_id(node.id) && node.face.is_none_or(is_face_id))
-}
-
-fn is_edge_in_range(edge: &EdgeRow) -> bool
-    ensures { result ≡ is_edge_in_range edge.now }
-{
-    is_id(edge.id)
-        && is_id(edge.start)
-        && is_id(edge.end)
-        && is_signed_edge(edge.next_left)
-        && is_signed_edge(edge.next_right)
-        && is_face_id(edge.left_face)
-        && is_face_id(edge.right_face)
-}
-
-fn are_edges_in_range(edges: &[EdgeRow]) -> bool
-    ensures { result ≡ list_all is_edge_in_range edges.now }
-{
-    edges.iter().all(|edge| is_edge_in_range(edge))
-}
-
-fn are_faces_in_range(faces: &[FaceRow]) -> bool
-    ensures { result ≡ list_all (λ r. is_face_id r.id) faces.now }
-{
-    faces.iter().all(|face| is_face_id(face.id))
-}
-
-/// Whether tables without regions and members are in range.
-fn are_in_range(tables: &Tables) -> bool
-    ensures { IsTrue result → IsTrue (is_in_range (rows_of tables.now)) }
-{
-    if !are_nodes_in_range(&tables.nodes)
-        || !are_edges_in_range(&tables.edges)
-        || !are_faces_in_range(&tables.faces)
-    {
-        return false;
-    }
-    if !tables.regions.is_empty() || !tables.members.is_empty() {
-        return false;
-    }
-    tables.nodes.len() <= 16_777_216
-        && tables.edges.len() <= 16_777_216
-        && tables.faces.len() <= 16_777_216
-}
+use topo_base::{IdNumber, SignedNumber};
+use worked_maps::are_in_range;
 
 /// The image of these rows.
 fn image_of(

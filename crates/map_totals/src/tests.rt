@@ -5,79 +5,13 @@ ghost use Rattle.std.specs.Prelude.{◌≡◌, ◌<◌};
 use crate::maps::grid_image;
 use crate::{Totals, totals};
 use bit_words::Steps;
+use image_words::{bytes_of, triangle};
 use pemb_file::open;
 use scratch_region::Region;
 use std::alloc::Global;
 use std::marker::Brand;
 use std::sync::ledger::{Blank, Ledger};
 use std::test::Fail;
-
-/// The words of the file of a triangle: edges 1, 2 and 3 round face 1.
-const TRIANGLE: [u64; 54] = [
-    0x4f504f54424d4550,
-    2,
-    0xa1bf1ed24ca70269,
-    0x9821e4f8115845eb,
-    0x4551c61015007f17,
-    0xfcf998d9c03e5ac2,
-    3,
-    2,
-    1,
-    0,
-    0,
-    0,
-    0,
-    0,
-    0,
-    27,
-    4 << 32,
-    3,
-    2 << 32,
-    0,
-    1,
-    1 << 32,
-    0,
-    6 << 32,
-    0,
-    7,
-    3 << 32,
-    0x4000000000000001,
-    3 << 58,
-    0,
-    33,
-    0,
-    0,
-    7,
-    3 << 32,
-    0x4000000000000001,
-    3 << 58,
-    0,
-    24,
-    0,
-    0,
-    1,
-    1 << 32,
-    1,
-    0,
-    0,
-    0,
-    0,
-    0,
-    0,
-    0,
-    0,
-    0,
-    0,
-];
-
-/// The bytes of these words, the lowest byte of each first.
-fn bytes_of(alloc: Global, words: &[u64]) -> Result<Vec<u8>, Fail> {
-    let mut bytes = Vec::new(alloc);
-    for word in words {
-        bytes.extend_from_slice(&word.to_le_bytes())?;
-    }
-    Ok(bytes)
-}
 
 /// The totals of a file twice, on one set of marks.
 fn totals_twice<C: Ledger>(alloc: Global, bytes: &[u8], blank: Blank) -> Option<(Totals, Totals)>
@@ -102,7 +36,7 @@ fn totals_twice<C: Ledger>(alloc: Global, bytes: &[u8], blank: Blank) -> Option<
 #[test]
 fn a_triangle_has_six_ends_and_two_neighbours(rt: HostRuntime) -> Result<(), Fail> {
     let alloc = rt.alloc();
-    let bytes = bytes_of(alloc, &TRIANGLE)?;
+    let bytes = bytes_of(alloc, &triangle())?;
     let want = Totals {
         face: 6,
         node: 6,

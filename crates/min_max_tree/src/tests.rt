@@ -5,6 +5,7 @@ ghost use Rattle.min_max_tree.specs.MinMaxView.{searched};
 
 use crate::{MinMaxView, check, make, node_count};
 use bit_words::{BitMaker, BitView, Steps, WordView, WrongEntry};
+use image_words::bytes_of;
 use std::alloc::Global;
 use std::marker::Brand;
 use std::sync::ledger::{Blank, Ledger};
@@ -46,15 +47,6 @@ impl Pattern {
         }
         Ok(bits)
     }
-}
-
-/// The bytes of these words, the lowest byte of each first.
-fn bytes_of(alloc: Global, words: &[u64]) -> Result<Vec<u8>, Fail> {
-    let mut bytes = Vec::new(alloc);
-    for word in words {
-        bytes.extend_from_slice(&word.to_le_bytes())?;
-    }
-    Ok(bytes)
 }
 
 /// The image of these bits, with the tree that is made.

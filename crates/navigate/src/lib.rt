@@ -32,6 +32,7 @@ pub use look_ups::{containing, ends, next, sides};
 pub use names::{face_in, place_of};
 pub use neighbours::adjacent_walk;
 pub use orbit_walk::{NodeWalk, RingWalk};
+pub use positions::place_beside;
 pub use rounds::{node_walk, ring_walk};
 pub use upward::RegionWalk;
 

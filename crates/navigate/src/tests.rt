@@ -10,6 +10,7 @@ use crate::{
     region_walk, ring_edges, ring_walk, sides,
 };
 use bit_words::Steps;
+use image_words::{bytes_of, island, triangle};
 use pemb_file::{Served, open};
 use scratch_region::{Marks, Region};
 use std::alloc::Global;
@@ -17,150 +18,6 @@ use std::marker::Brand;
 use std::sync::ledger::{Blank, Ledger};
 use std::test::Fail;
 use topo_base::{FaceId, NodeId, RegionId, Signed};
-
-/// The words of the file.
-fn words() -> [u64; 54] {
-    [
-        5715155150441366864,
-        2,
-        11655068249236111977,
-        10962294722090517995,
-        4994991234104721175,
-        18228769027759430338,
-        3,
-        2,
-        1,
-        0,
-        0,
-        0,
-        0,
-        0,
-        0,
-        27,
-        17179869184,
-        3,
-        8589934592,
-        0,
-        1,
-        4294967296,
-        0,
-        25769803776,
-        0,
-        7,
-        12884901888,
-        4611686018427387905,
-        864691128455135232,
-        0,
-        33,
-        0,
-        0,
-        7,
-        12884901888,
-        4611686018427387905,
-        864691128455135232,
-        0,
-        24,
-        0,
-        0,
-        1,
-        4294967296,
-        1,
-        0,
-        0,
-        0,
-        0,
-        0,
-        0,
-        0,
-        0,
-        0,
-        0,
-    ]
-}
-
-/// The words of the file of this triangle with a closed edge in it, 4 at node 4, round face 2, and node 5 in face 2.
-/// Face 1 is in region 2, which lies in region 1, and face 2 is in region 1.
-fn nested_words() -> [u64; 68] {
-    [
-        5715155150441366864,
-        2,
-        15871800027431055987,
-        6222024572385703295,
-        17804374802572391335,
-        5745306103414178655,
-        4,
-        2,
-        2,
-        1,
-        2,
-        2,
-        0,
-        0,
-        0,
-        27,
-        17179869184,
-        3,
-        8589934592,
-        0,
-        5,
-        8589934592,
-        0,
-        25769803776,
-        8,
-        0,
-        31,
-        21474836480,
-        2305843009213693953,
-        216172782113783808,
-        18014398509481984,
-        1407374883553280,
-        0,
-        17433,
-        5,
-        8589934592,
-        2,
-        15,
-        17179869184,
-        2305843009213693953,
-        216172782113783808,
-        18014398509481984,
-        0,
-        1616,
-        0,
-        0,
-        3,
-        8589934592,
-        4611686018427387905,
-        0,
-        4,
-        0,
-        0,
-        4294967296,
-        4294967296,
-        2,
-        3,
-        8589934592,
-        0,
-        3,
-        8589934592,
-        4611686018427387905,
-        0,
-        4,
-        0,
-        0,
-        8589934592,
-        1,
-    ]
-}
-
-/// The bytes of these words, the lowest byte of each first.
-fn bytes(alloc: Global, words: &[u64]) -> Result<Vec<u8>, Fail> {
-    let mut bytes = Vec::new(alloc);
-    for word in words.iter() {
-        bytes.extend_from_slice(&word.to_le_bytes())?;
-    }
-    Ok(bytes)
-}
 
 /// What a walk round node 1, one on the ring of -2 and one along face 1 give, stepped in turn.
 fn stepped_in_turn<C: Ledger>(
@@ -352,7 +209,7 @@ fn shared<C: Ledger>(
 #[test]
 fn walks_stepped_in_turn(rt: HostRuntime) -> Result<(), Fail> {
     let alloc = rt.alloc();
-    let bytes = bytes(alloc, &words())?;
+    let bytes = bytes_of(alloc, &triangle())?;
     let want = [
         [Signed::new(1), Signed::new(-2), Signed::new(1)],
         [Signed::new(-3), Signed::new(-1), Signed::new(2)],
@@ -369,7 +226,7 @@ fn walks_stepped_in_turn(rt: HostRuntime) -> Result<(), Fail> {
 #[test]
 fn edges_and_nodes_are_looked_up(rt: HostRuntime) -> Result<(), Fail> {
     let alloc = rt.alloc();
-    let bytes = bytes(alloc, &words())?;
+    let bytes = bytes_of(alloc, &triangle())?;
     let want = LookUps {
         next: Signed::new(-3),
         ends: Some((NodeId(2), NodeId(1))),
@@ -384,7 +241,7 @@ fn edges_and_nodes_are_looked_up(rt: HostRuntime) -> Result<(), Fail> {
 #[test]
 fn a_triangle_is_an_island_and_a_ring(rt: HostRuntime) -> Result<(), Fail> {
     let alloc = rt.alloc();
-    let bytes = bytes(alloc, &words())?;
+    let bytes = bytes_of(alloc, &triangle())?;
     let Some(edge) = Signed::new(-1) else {
         return Err(Fail::new("no signed edge"));
     };
@@ -403,7 +260,7 @@ fn a_triangle_is_an_island_and_a_ring(rt: HostRuntime) -> Result<(), Fail> {
 #[test]
 fn neighbours_come_twice_on_one_set_of_marks(rt: HostRuntime) -> Result<(), Fail> {
     let alloc = rt.alloc();
-    let bytes = bytes(alloc, &words())?;
+    let bytes = bytes_of(alloc, &triangle())?;
     let want = [
         (Some(FaceId(0)), None),
         (Some(FaceId(0)), None),
@@ -419,7 +276,7 @@ fn neighbours_come_twice_on_one_set_of_marks(rt: HostRuntime) -> Result<(), Fail
 #[test]
 fn regions_are_walked_up_and_shared(rt: HostRuntime) -> Result<(), Fail> {
     let alloc = rt.alloc();
-    let bytes = bytes(alloc, &nested_words())?;
+    let bytes = bytes_of(alloc, &island())?;
     let inner = Some(RegionId(2));
     let outer = Some(RegionId(1));
     let want = [

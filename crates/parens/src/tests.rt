@@ -6,6 +6,7 @@ ghost use Rattle.parens.specs.ParenView.{parens_of};
 
 use crate::{ParenView, check_balanced};
 use bit_words::{BitMaker, BitView, PackedView, Steps, WordView};
+use image_words::bytes_of;
 use min_max_tree::MinMaxView;
 use rank_select::RankView;
 use std::alloc::Global;
@@ -20,15 +21,6 @@ struct Image {
     bits: Vec<u8>,
     counts: Vec<u8>,
     nodes: Vec<u8>,
-}
-
-/// The bytes of these words, the lowest byte of each first.
-fn bytes_of(alloc: Global, words: &[u64]) -> Result<Vec<u8>, Fail> {
-    let mut bytes = Vec::new(alloc);
-    for word in words {
-        bytes.extend_from_slice(&word.to_le_bytes())?;
-    }
-    Ok(bytes)
 }
 
 /// The image of these bits, with the counts and the tree that are made.

@@ -4,24 +4,15 @@ ghost use Rattle.std.specs.Prelude.{◌≡◌, ◌<◌};
 
 mod written;
 
-use crate::tests::written::{NEW_TRIANGLE, OLD_ISLAND, OLD_TRIANGLE};
 use crate::{Counts, FileFault, Served, open};
 use bit_words::Steps;
 use code_laws::SeqFault;
+use image_words::{bytes_of, old_island, old_triangle, triangle};
 use sha2::{Digest, Sha256};
 use std::alloc::Global;
 use std::marker::Brand;
 use std::sync::ledger::{Blank, Ledger};
 use std::test::Fail;
-
-/// The bytes of these words, the lowest byte of each first.
-fn bytes_of(alloc: Global, words: &[u64]) -> Result<Vec<u8>, Fail> {
-    let mut bytes = Vec::new(alloc);
-    for word in words {
-        bytes.extend_from_slice(&word.to_le_bytes())?;
-    }
-    Ok(bytes)
-}
 
 /// The same with the digest of the bytes from the 48th on in its place.
 fn sealed(alloc: Global, words: &[u64]) -> Result<Vec<u8>, Fail> {
@@ -66,7 +57,7 @@ fn fault_with(
 
 /// The fault of the triangle's file with the lowest bit of one word flipped and the digest as it was.
 fn fault_flipped(alloc: Global, at: usize) -> Result<Option<FileFault>, Fail> {
-    let mut words = OLD_TRIANGLE;
+    let mut words = old_triangle();
     if at < words.len() {
         words[at] ^= 1;
     }
@@ -76,7 +67,7 @@ fn fault_flipped(alloc: Global, at: usize) -> Result<Option<FileFault>, Fail> {
 
 /// The fault of the first bytes of the triangle's file.
 fn fault_cut(alloc: Global, len: usize) -> Result<Option<FileFault>, Fail> {
-    let mut bytes = bytes_of(alloc, &OLD_TRIANGLE)?;
+    let mut bytes = bytes_of(alloc, &old_triangle())?;
     bytes.truncate(len);
     Ok(fault(alloc, &bytes))
 }
@@ -159,8 +150,8 @@ fn the_file_of_a_triangle_is_opened(rt: HostRuntime) -> Result<(), Fail> {
         isolated: 0,
     };
     for image in [
-        bytes_of(alloc, &OLD_TRIANGLE)?,
-        bytes_of(alloc, &NEW_TRIANGLE)?,
+        bytes_of(alloc, &old_triangle())?,
+        bytes_of(alloc, &triangle())?,
     ] {
         assert_eq!(rt;
             examined_counted::<Brand>(alloc, &image, Blank::new(1)),
@@ -173,7 +164,7 @@ fn the_file_of_a_triangle_is_opened(rt: HostRuntime) -> Result<(), Fail> {
 #[test]
 fn the_file_of_an_island_is_opened(rt: HostRuntime) -> Result<(), Fail> {
     let alloc = rt.alloc();
-    let image = sealed(alloc, &OLD_ISLAND)?;
+    let image = sealed(alloc, &old_island())?;
     let want = Seen {
         positions: 8,
         counts: Counts {
@@ -293,7 +284,7 @@ fn other_words_of_a_triangle_are_told(rt: HostRuntime) -> Result<(), Fail> {
         ),
         (15, 91, Some(FileFault::Padding { word: 15 })),
     ] {
-        assert_eq!(rt; fault_with(rt.alloc(), &OLD_TRIANGLE, at, word)?, want);
+        assert_eq!(rt; fault_with(rt.alloc(), &old_triangle(), at, word)?, want);
     }
     Ok(())
 }
@@ -314,7 +305,7 @@ fn wrong_directories_of_a_triangle_are_told(rt: HostRuntime) -> Result<(), Fail>
             found,
         };
         assert_eq!(rt;
-            fault_with(rt.alloc(), &OLD_TRIANGLE, at, word)?,
+            fault_with(rt.alloc(), &old_triangle(), at, word)?,
             Some(fault)
         );
     }
@@ -336,7 +327,10 @@ fn other_words_of_an_island_are_told(rt: HostRuntime) -> Result<(), Fail> {
         (61, 3, FileFault::RegionPart { section: 25, at: 2 }),
         (61, 1 << 40, FileFault::Padding { word: 61 }),
     ] {
-        assert_eq!(rt; fault_with(rt.alloc(), &OLD_ISLAND, at, word)?, Some(want));
+        assert_eq!(rt;
+            fault_with(rt.alloc(), &old_island(), at, word)?,
+            Some(want)
+        );
     }
     Ok(())
 }

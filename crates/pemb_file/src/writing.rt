@@ -2,10 +2,8 @@
 
 ghost use Rattle.std.specs.Prelude.{ℕ, ◌≡◌, ◌≤◌, ◌<◌, ◌+◌, ◌*◌, ◌^◌, List, [], ◌∷◌, ◌++◌, length, take, drop, slice_index, IfOk, OnOk, IsTrue};
 ghost use Rattle.sha2.specs.Sha256.{sha256};
-ghost use Rattle.bit_words.specs.Packed.{PackedList};
 ghost use Rattle.id_names.specs.Names.{AreDistinctIds};
 ghost use Rattle.code_laws.specs.Tour.{code_of};
-ghost use Rattle.turan_code.specs.CodeWords.{AreWordsOf};
 ghost use Rattle.file_laws.specs.Layout.{words_of, file_words, id_bits};
 ghost use Rattle.file_laws.specs.Held.{contents_of};
 ghost use Rattle.file_laws.specs.Lawful.{is_lawful, is_whole, has_room_for};
@@ -19,12 +17,11 @@ use crate::form::Form;
 use crate::header::{MAGIC, digest_of};
 use crate::layout::Header;
 use crate::parts::ImageParts;
-use bit_words::{BitMaker, Memory, PackedMaker};
+use bit_words::{Memory, all_bits, all_numbers};
 use id_names::NameWords;
 use rank_select::make_counts;
 use std::alloc::Global;
 use topo_base::IdNumber;
-use turan_code::CodeWords;
 
 /// The words of the names of each class.
 #[derive(Drop)]
@@ -56,36 +53,12 @@ fn push_words(image: &mut Vec<u8>, words: &[u64]) -> Result<(), Memory>
     Ok(())
 }
 
-/// These bits, one after another.
-fn maker_of(alloc: Global, bits: &[bool]) -> Result<BitMaker, Memory>
-    requires { length bits.now ≤ 2147483647 }
-    ensures { IfOk result (λ maker. maker ≡ bits.now) }
-{
-    let mut maker = BitMaker::new(alloc);
-    for bit in bits {
-        maker.push(*bit)?;
-    }
-    Ok(maker)
-}
-
-/// These numbers by 32 bits each.
-fn packed(alloc: Global, items: &[u32]) -> Result<PackedMaker, Memory>
-    requires { length items.now ≤ 2147483647 }
-    ensures { IfOk result (λ maker. maker ≡ record { width = 32; items = items.now }) }
-{
-    let mut maker = PackedMaker::new(alloc, 32);
-    for item in items {
-        maker.push(u64::from(*item))?;
-    }
-    Ok(maker)
-}
-
 /// Puts a section of bits at the end.
 fn push_bits(alloc: Global, image: &mut Vec<u8>, bits: &[bool]) -> Result<(), Memory>
     requires { length bits.now ≤ 2147483647 }
     ensures { OnOk result ((number : ℕ) → Written image.old.items image.new.items (with_bits number bits.now ∷ [])) }
 {
-    let words = maker_of(alloc, bits)?.finish();
+    let words = all_bits(alloc, bits)?.finish();
     push_words(image, &words)
 }
 
@@ -94,7 +67,7 @@ fn push_fields(alloc: Global, image: &mut Vec<u8>, items: &[u32]) -> Result<(), 
     requires { length items.now ≤ 2147483647 }
     ensures { OnOk result ((number : ℕ) → Written image.old.items image.new.items (with_fields number items.now ∷ [])) }
 {
-    let words = packed(alloc, items)?.finish();
+    let words = all_numbers(alloc, items)?.finish();
     push_words(image, &words)
 }
 
@@ -139,7 +112,7 @@ fn push_parens(alloc: Global, image: &mut Vec<u8>, bits: &[bool]) -> Result<(), 
     requires { length bits.now ≤ 2147483647 }
     ensures { OnOk result ((number : ℕ) → Written image.old.items image.new.items (with_tree number bits.now)) }
 {
-    let maker = maker_of(alloc, bits)?;
+    let maker = all_bits(alloc, bits)?;
     let counts = make_counts(alloc, &maker)?.finish();
     let nodes = min_max_tree::make(alloc, &maker)?;
     push_words(image, &maker.finish())?;

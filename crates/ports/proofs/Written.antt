@@ -8,11 +8,11 @@ use Rattle.ports.specs.Outside.{GainsPart}
 abbrev pub IsWrittenTo : Option (List ℕ) → Option (List ℕ) → List ℕ → List ℕ → Type 0
 IsWrittenTo before after rest bytes = (part : List ℕ) × (part ++ rest ≡ bytes) × Appends before after part
 
-appends_nothing : (known : Option (List ℕ)) → Appends known known []
+pub appends_nothing : (known : Option (List ℕ)) → Appends known known []
 appends_nothing None = tt
 appends_nothing (Some xs) = sym (append-nil xs)
 
-appends_more : (a b c : Option (List ℕ)) (xs ys : List ℕ) → Appends a b xs → Appends b c ys → Appends a c (xs ++ ys)
+pub appends_more : (a b c : Option (List ℕ)) (xs ys : List ℕ) → Appends a b xs → Appends b c ys → Appends a c (xs ++ ys)
 appends_more None b c xs ys p q = tt
 appends_more (Some a) None c xs ys p q = absurd p
 appends_more (Some a) (Some b) None xs ys p q = absurd q

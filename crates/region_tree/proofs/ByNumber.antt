@@ -3,7 +3,7 @@ use Rattle.std.specs.Prelude.{find, slice_index, option_map, IsTrue}
 use Rattle.std.proofs.Common.{◌≡◌, ◌≢◌, ℕ, zero, suc, ◌+◌, ◌<◌, ◌≤◌, inl, inr, Bool, true, false, ◌==◌, List, [], ◌∷◌, map, length, refl, ap, sym, ◌∙◌, subst, arith, Option, Some, None, eq-eqb}
 use Rattle.std.proofs.lemmas.Bool.{cases_Bool, both_ways, eqb-true, ne_eqb, or_left, or_right}
 use Rattle.bit_words.specs.Bits.{rank, select}
-use Rattle.code_laws.proofs.Places.{select-placed}
+use Rattle.rank_select.proofs.Selects.{select-placed}
 use Rattle.code_laws.proofs.Apart.{fewer}
 use Rattle.parens.specs.Matching.{is_open, is_round, innermost}
 use Rattle.parens.proofs.Balances.{IsBalanced, balanced}

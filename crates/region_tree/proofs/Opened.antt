@@ -5,7 +5,7 @@ use Rattle.std.specs.Cmp.{both_ways as tests_agree}
 use Rattle.std.proofs.lemmas.Bool.{cases_lt, cases_Bool, and_parts, and_from, both_ways, le-leb, false_from_ne_true}
 use Rattle.std.proofs.lemmas.Int.{ints}
 use Rattle.bit_words.specs.Bits.{rank, select, excess}
-use Rattle.code_laws.proofs.Selects.{selected}
+use Rattle.rank_select.proofs.Selects.{selected}
 use Rattle.code_laws.proofs.Apart.{fewer}
 use Rattle.parens.specs.Matching.{is_open, close_of, is_from, is_round, innermost, falling}
 use Rattle.parens.proofs.Balances.{IsBalanced}

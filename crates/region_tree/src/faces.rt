@@ -3,9 +3,9 @@
 ghost use Rattle.std.specs.Prelude.{map};
 ghost use Rattle.id_index.specs.Index.{IsIndex};
 
-use crate::rows::face_ids;
 use id_index::IdIndex;
 use plane_model::{FaceRow, MemberRow};
+use rotation_check::face_ids;
 use std::alloc::{AllocError, Global};
 use topo_base::{IdNumber, Refusal, Table};
 

@@ -4,7 +4,7 @@ ghost use Rattle.std.specs.Prelude.{◌≡◌, ◌<◌, ◌≤◌, false, length
 ghost use Rattle.std.specs.List.Sorted.{IsNonDecreasing, IsNonDecreasingBy};
 ghost use Rattle.plane_model.specs.Sets.{has};
 
-use plane_model::{FaceRow, RegionRow};
+use plane_model::RegionRow;
 use std::alloc::{AllocError, Global};
 use topo_base::IdNumber;
 
@@ -20,13 +20,6 @@ pub fn rows_by_id(alloc: Global, regions: &[RegionRow]) -> Result<Vec<RegionRow>
 
 /// The ids of rows.
 pub fn region_ids(alloc: Global, rows: &[RegionRow]) -> Result<Vec<IdNumber>, AllocError>
-    ensures { IfOk result (λ ids. ids.items ≡ map (λ r. r.id) rows.now) }
-{
-    rows.iter().map(|row| row.id).collect(alloc)
-}
-
-/// The ids of faces.
-pub fn face_ids(alloc: Global, rows: &[FaceRow]) -> Result<Vec<IdNumber>, AllocError>
     ensures { IfOk result (λ ids. ids.items ≡ map (λ r. r.id) rows.now) }
 {
     rows.iter().map(|row| row.id).collect(alloc)

@@ -1,9 +1,8 @@
 //! Hierarchies of a few regions, of a long chain and of one wide region, built and asked; and rows that are none.
 
 ghost use Rattle.std.specs.Prelude.{◌≡◌, ◌&&◌, ◌<◌, ◌≤◌, ℕ, IfOk, IfSome, IsTrue, length, slice_index};
-ghost use Rattle.std.specs.List.{list_all};
-ghost use Rattle.bit_words.specs.PackedView.{fields_of, width_of};
-ghost use Rattle.plane_model.specs.InRange.{is_face_id, is_id, is_in_range, is_none_or};
+ghost use Rattle.bit_words.specs.PackedView.{fields_of};
+ghost use Rattle.plane_model.specs.InRange.{is_in_range};
 ghost use Rattle.region_tree.specs.RegionView.{regions_of};
 ghost use Rattle.region_tree.specs.Tables.{region_tables};
 
@@ -12,6 +11,7 @@ mod names;
 use crate::tests::names::{NamesImage, names_image, names_in};
 use crate::{MemberPlace, RegionParts, RegionView, build};
 use bit_words::{BitMaker, BitView, PackedMaker, PackedView, Steps, WordView};
+use image_words::{bytes_of, fields_in};
 use min_max_tree::MinMaxView;
 use parens::{ParenView, check_balanced};
 use plane_model::{FaceRow, MemberRow, RegionRow};
@@ -23,12 +23,7 @@ use std::process::Abort;
 use std::sync::ledger::{Blank, Ledger};
 use std::test::Fail;
 use topo_base::{IdNumber, LARGEST_ID, Refusal, Table};
-
-/// A region: its id and its parent.
-type Region = (IdNumber, Option<IdNumber>);
-
-/// A member: its region and its face.
-type Member = (IdNumber, IdNumber);
+use worked_maps::{Member, Region, are_faces_in_range, are_members_in_range, are_regions_in_range};
 
 /// Rows of regions, members and faces.
 #[derive(Drop)]
@@ -55,38 +50,6 @@ fn rows(
             .collect(alloc)?,
         faces: faces.iter().map(|&id| FaceRow { id }).collect(alloc)?,
     })
-}
-
-fn is_id(id: IdNumber) -> bool
-    ensures { result ≡ is_id id }
-{
-    id >= 1 && id <= LARGEST_ID
-}
-
-fn is_face_id(id: IdNumber) -> bool
-    ensures { result ≡ is_face_id id }
-{
-    id <= LARGEST_ID
-}
-
-fn are_regions_in_range(rows: &[RegionRow]) -> bool
-    ensures { result ≡ list_all (λ r. is_id r.id && is_none_or is_id r.parent) rows.now }
-{
-    rows.iter()
-        .all(|row| is_id(row.id) && row.parent.is_none_or(is_id))
-}
-
-fn are_members_in_range(rows: &[MemberRow]) -> bool
-    ensures { result ≡ list_all (λ r. is_id r.region && is_face_id r.face) rows.now }
-{
-    rows.iter()
-        .all(|row| is_id(row.region) && is_face_id(row.face))
-}
-
-fn are_faces_in_range(rows: &[FaceRow]) -> bool
-    ensures { result ≡ list_all (λ r. is_face_id r.id) rows.now }
-{
-    rows.iter().all(|row| is_face_id(row.id))
 }
 
 fn are_in_range(regions: &[RegionRow], members: &[MemberRow], faces: &[FaceRow]) -> bool
@@ -262,15 +225,6 @@ struct Image {
     members: Vec<u8>,
 }
 
-/// The bytes of these words, the lowest byte of each first.
-fn bytes_of(alloc: Global, words: &[u64]) -> Result<Vec<u8>, Fail> {
-    let mut bytes = Vec::new(alloc);
-    for word in words {
-        bytes.extend_from_slice(&word.to_le_bytes())?;
-    }
-    Ok(bytes)
-}
-
 fn bit_maker(alloc: Global, bits: &[bool]) -> Result<BitMaker, Fail>
     requires { length bits.now ≤ 2147483647 }
     ensures { IfOk result (λ maker. length maker ≡ length bits.now) }
@@ -313,21 +267,6 @@ fn image_of(alloc: Global, tables: &Tables, members: &[u32]) -> Result<Image, Fa
         names: names_image(alloc, &parts.ids)?,
         members: bytes_of(alloc, packed(alloc, members)?.finish().as_slice())?,
     })
-}
-
-/// The first `count` numbers of `width` bits in these bytes. None where there are too few.
-fn fields_in(bytes: &[u8], count: usize, width: u32) -> Option<PackedView<'_>>
-    ensures count { IfSome result (λ fields. length (fields_of fields) ≡ count) }
-    ensures width { IfSome result (λ fields. width_of fields ≡ width) }
-{
-    let words = WordView::new(bytes)?;
-    if width == 0 || width > 64 || count > 2147483647 {
-        return None;
-    }
-    if (count * width as usize).div_ceil(64) > words.len() {
-        return None;
-    }
-    Some(PackedView::new(words, count, width))
 }
 
 /// The parentheses of an image.

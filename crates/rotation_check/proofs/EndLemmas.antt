@@ -50,7 +50,8 @@ edge_id-get edges dart h =
       | inr ne ↦ rw (at, ne_eqb (dart % 2) 0 ne) (edge_of-neg (get_or edges (dart / 2) no_edge).id ∙ sym is)
     ]
 
-forward_even : (edges : List EdgeRow) (dart : ℕ) → list_all (λ e. nat_lt 0 e.id) edges ≡ true → dart < 2 * length edges → is_forward (signed_edge edges dart) ≡ (dart % 2 == 0)
+-- the direction of a dart's signed edge
+pub forward_even : (edges : List EdgeRow) (dart : ℕ) → list_all (λ e. nat_lt 0 e.id) edges ≡ true → dart < 2 * length edges → is_forward (signed_edge edges dart) ≡ (dart % 2 == 0)
 forward_even edges dart ids h =
     let at = slice_get-get_or edges (dart / 2) no_edge (omega arith) in
     elim (cases_eq (dart % 2) 0) [

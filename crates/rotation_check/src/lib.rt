@@ -15,5 +15,5 @@ mod tests;
 
 pub use checking::{CheckFault, check};
 pub use darts::reversed;
-pub use repeated_ids::node_ids;
+pub use repeated_ids::{face_ids, node_ids};
 pub use rotation::Rotation;

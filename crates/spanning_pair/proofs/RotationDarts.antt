@@ -1,10 +1,9 @@
 -- The darts of a rotation are a numbered system, and what is read of one is its next and its node.
 use Rattle.std.proofs.Common.{◌≡◌, ℕ, zero, suc, ◌*◌, ◌/◌, ◌%◌, ◌<◌, inl, inr, ℤ, Bool, true, ◌==◌, List, [], ◌∷◌, map, length, get_or, refl, sym, ap, ◌∙◌, subst, arith, eq-eqb}
-use Rattle.std.specs.Prelude.{find, IsTrue, is_some, nat_lt, option_map}
+use Rattle.std.specs.Prelude.{find, IsTrue, is_some, option_map}
 use Rattle.std.specs.List.{list_all}
 use Rattle.std.proofs.lemmas.Bool.{and_parts, cases_Bool, cases_eq, eqb-true, ne_eqb, or_cases, or_left, or_right, both_ways}
 use Rattle.std.proofs.lemmas.List.{length-map}
-use Rattle.std.proofs.lemmas.Option.{slice_get-get_or}
 use Rattle.topo_base.specs.SignedEdge.{edge_of, is_forward, reverse, same_edge}
 use Rattle.orbits.specs.Renaming.{Renames, Carries}
 use Rattle.orbits.proofs.Carried.{meets_listed}
@@ -14,18 +13,17 @@ use Rattle.plane_model.specs.declared.rows.EdgeRow.{EdgeRow}
 use Rattle.plane_model.specs.declared.rows.NodeRow.{NodeRow}
 use Rattle.plane_model.specs.Rows.{Rows}
 use Rattle.plane_model.specs.Sets.{has, has_edge, is_distinct, is_distinct_edges}
-use Rattle.plane_model.specs.PlaneMap.{PlaneMap, map_of, no_edge, signed_edges, next, turn, origin, head, leaving, round}
+use Rattle.plane_model.specs.PlaneMap.{PlaneMap, map_of, signed_edges, next, turn, origin, head, leaving, round}
 use Rattle.plane_model.specs.Rotation.{has_its_rows, is_one_orbit, is_whole_node, is_rotation}
 use Rattle.plane_model.specs.Orders.{Permutes}
-use Rattle.plane_model.proofs.Lookups.{is_backward, positive_id}
 use Rattle.plane_model.proofs.RotationOrbits.{next_permutes, turn_permutes}
 use Rattle.plane_model.proofs.SetLaws.{same_is, same_self, same_edges}
 use Rattle.plane_model.proofs.Sorting as sorting
 use Rattle.rotation_check.specs.Darts.{RotationRows, IsRotation, map_of_rotation, node_id, signed_edge}
 use Rattle.rotation_check.proofs.DartLists.{dart_place, signed_there}
-use Rattle.rotation_check.proofs.EndLemmas.{one_place, node_id-get, edge_id-get}
+use Rattle.rotation_check.proofs.EndLemmas.{one_place, node_id-get, edge_id-get, forward_even}
 use Rattle.rotation_check.proofs.Turning.{signed-reverse_dart}
-use Rattle.spanning_pair.specs.Darts.{reverse_dart, turned, IsDartSystem}
+use Rattle.spanning_pair.specs.Darts.{reverse_dart, turned}
 use Rattle.spanning_pair.specs.Darts as darts
 use Rattle.spanning_pair.specs.Rotations.{place_of, dart_of, next_dart, node_row}
 use Rattle.spanning_pair.specs.Tours.{IsNumberedSystem}
@@ -49,15 +47,6 @@ place_there (y ∷ ys) x h = elim (cases_eq x y) [
       let more = place_there ys x (elim (or_cases (x == y) (has ys x) h) [ inl e ↦ absurd (ne (eqb-true x y e)) | inr m ↦ m ]) in
       rw (ne_eqb x y ne) ((let lt = more.0 in omega arith), more.1)
 ]
-
--- the direction of a dart's signed edge
-forward_even : (edges : List EdgeRow) (dart : ℕ) → list_all (λ e. nat_lt 0 e.id) edges ≡ true → dart < 2 * length edges → is_forward (signed_edge edges dart) ≡ (dart % 2 == 0)
-forward_even edges dart ids h =
-    let at = slice_get-get_or edges (dart / 2) no_edge (omega arith) in
-    elim (cases_eq (dart % 2) 0) [
-      | inl e ↦ rw (at, eq-eqb (dart % 2) 0 e) refl
-      | inr ne ↦ rw (at, ne_eqb (dart % 2) 0 ne) (is_backward (get_or edges (dart / 2) no_edge).id (positive_id edges (dart / 2) (get_or edges (dart / 2) no_edge) ids at))
-    ]
 
 dart_is : (edges : List EdgeRow) (d : ℤ) (dart : ℕ) → place_of (map (λ e. e.id) edges) (edge_of d) ≡ dart / 2 → is_forward d ≡ (dart % 2 == 0) → dart_of edges d ≡ dart
 unfolding dart_of

@@ -3,15 +3,13 @@
 ghost use Rattle.std.specs.Prelude.{◌≡◌, ◌<◌, ◌≤◌, ◌+◌, ◌*◌, length, pos, neg_ℤ, IsTrue, if◌then◌else◌};
 ghost use Rattle.topo_base.specs.declared.id.TheConstants.{LARGEST_ID};
 ghost use Rattle.code_laws.specs.Code.{next};
-ghost use Rattle.code_laws.specs.Numbers.{ring_of};
 ghost use Rattle.id_names.specs.Names.{is_id};
-ghost use Rattle.file_laws.specs.MapOfFile.{face_at, forward_position, node_at, place_of_ring, signed_at};
+ghost use Rattle.file_laws.specs.MapOfFile.{face_at, forward_position, node_at, signed_at};
 ghost use Rattle.pemb_file.specs.Served.{contents_of_view};
 ghost use Rattle.navigate.specs.Bound.{line_digits};
 
 use bit_words::Steps;
-use code_laws::RingNumber;
-use navigate::face_in;
+use navigate::{face_in, place_beside};
 use pemb_file::Served;
 use std::sync::ledger::Ledger;
 use topo_base::{IdNumber, SignedNumber};
@@ -49,21 +47,6 @@ pub(crate) fn node_left<C: Ledger>(served: Served<'_>, p: usize, steps: &mut Ste
     let code = served.code();
     let number = code.node_of(p, steps) as usize;
     served.nodes().id_of(number, steps)
-}
-
-/// The place of the face on the left of a position: 0 for face 0, and else 1 + the number of the face.
-fn place_beside<C: Ledger>(served: Served<'_>, p: usize, steps: &mut Steps<C>) -> usize
-    requires { p < length (contents_of_view served).code.a }
-    ensures place { result ≡ place_of_ring (contents_of_view served.entry) (ring_of (contents_of_view served.entry).code p) }
-    ensures within { result ≤ length (contents_of_view served.entry).faces }
-    ensures some_steps { steps.old + 1 ≤ steps.new }
-    ensures cost { steps.new ≤ steps.old + (6 * line_digits (contents_of_view served.entry) + 62) }
-{
-    let code = served.code();
-    match code.ring_of(p, steps) {
-        RingNumber::Outer(component) => served.place(component as usize, steps) as usize,
-        RingNumber::Shell(shell) => shell as usize + 1,
-    }
 }
 
 /// The id of the face on the left of the signed edge of a position.

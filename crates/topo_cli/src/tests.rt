@@ -7,6 +7,7 @@ mod long_cycle;
 use crate::trial::grid_image;
 use crate::{Status, run};
 use bit_words::Steps;
+use image_words::{bytes_of, old_island, old_triangle, triangle};
 use ports::{
     FileShelf, MemoryShelf, MemorySink, MemorySource, Shelf, Sink, Source, StdSink, StdSource,
 };
@@ -922,195 +923,6 @@ fn files_of_the_system_are_answered(rt: HostRuntime) -> Result<(), Fail> {
     Ok(())
 }
 
-/// The words of the triangle's image.
-const TRIANGLE_IMAGE: [u64; 54] = [
-    0x4f504f54424d4550,
-    2,
-    0xa1bf1ed24ca70269,
-    0x9821e4f8115845eb,
-    0x4551c61015007f17,
-    0xfcf998d9c03e5ac2,
-    3,
-    2,
-    1,
-    0,
-    0,
-    0,
-    0,
-    0,
-    0,
-    27,
-    17179869184,
-    3,
-    8589934592,
-    0,
-    1,
-    4294967296,
-    0,
-    25769803776,
-    0,
-    7,
-    12884901888,
-    4611686018427387905,
-    864691128455135232,
-    0,
-    33,
-    0,
-    0,
-    7,
-    12884901888,
-    4611686018427387905,
-    864691128455135232,
-    0,
-    24,
-    0,
-    0,
-    1,
-    4294967296,
-    1,
-    0,
-    0,
-    0,
-    0,
-    0,
-    0,
-    0,
-    0,
-    0,
-    0,
-];
-
-/// The words of the triangle's file in form 1.
-const OLD_TRIANGLE: [u64; 52] = [
-    0x4f504f54424d4550,
-    1,
-    0xcd446cffc1e99544,
-    0x4135ffdf3f829151,
-    0x93ef3e4b62f5dbcc,
-    0x1e1a49fb6423447b,
-    3,
-    2,
-    1,
-    0,
-    0,
-    0,
-    0,
-    0,
-    0,
-    27,
-    17179869184,
-    3,
-    8589934592,
-    0,
-    1,
-    4294967296,
-    0,
-    25769803776,
-    0,
-    7,
-    12884901888,
-    864691129528877057,
-    0,
-    33,
-    0,
-    0,
-    7,
-    12884901888,
-    864691129528877057,
-    0,
-    24,
-    0,
-    0,
-    1,
-    4294967296,
-    1,
-    0,
-    0,
-    0,
-    0,
-    0,
-    0,
-    0,
-    0,
-    0,
-    0,
-];
-
-/// The words of the file of the island with two regions in form 1.
-const OLD_ISLE: [u64; 62] = [
-    0x4f504f54424d4550,
-    1,
-    0x3fdf05c01785a467,
-    0xa6e1cdd7807edcad,
-    0xc772b8838ba145f3,
-    0xa4947b198cd9c407,
-    4,
-    2,
-    2,
-    1,
-    2,
-    2,
-    0,
-    0,
-    0,
-    27,
-    17179869184,
-    3,
-    8589934592,
-    0,
-    5,
-    8589934592,
-    0,
-    25769803776,
-    8,
-    0,
-    31,
-    21474836480,
-    216172782650654721,
-    1407374887747584,
-    0,
-    17433,
-    5,
-    8589934592,
-    2,
-    15,
-    17179869184,
-    216172782650654721,
-    4194304,
-    1616,
-    0,
-    0,
-    3,
-    8589934592,
-    1073741825,
-    4,
-    0,
-    0,
-    4294967296,
-    4294967296,
-    2,
-    3,
-    8589934592,
-    0,
-    3,
-    8589934592,
-    1073741825,
-    4,
-    0,
-    0,
-    8589934592,
-    1,
-];
-
-/// The bytes of these words, the lowest byte of each first.
-fn bytes_of(alloc: Global, words: &[u64]) -> Result<Vec<u8>, Fail> {
-    let mut bytes = Vec::new(alloc);
-    for word in words {
-        bytes.extend_from_slice(&word.to_le_bytes())?;
-    }
-    Ok(bytes)
-}
-
 /// A run of these words over a script that can't be read.
 fn run_unasked<H: Shelf, K: Sink, L: Ledger>(
     alloc: Global,
@@ -1330,8 +1142,8 @@ const BUILDS: [BuildCase; 20] = [
 /// Whether a file is missing, or holds so many bytes of the triangle's image, or of its file in form 1 where these are
 /// all.
 fn holds_front(alloc: Global, file: Option<&[u8]>, count: Option<usize>) -> Result<bool, Fail> {
-    let image = bytes_of(alloc, &TRIANGLE_IMAGE)?;
-    let old = bytes_of(alloc, &OLD_TRIANGLE)?;
+    let image = bytes_of(alloc, &triangle())?;
+    let old = bytes_of(alloc, &old_triangle())?;
     Ok(match (file, count) {
         (None, None) => true,
         (Some(bytes), Some(416)) => bytes == old.as_slice(),
@@ -1347,7 +1159,7 @@ fn builds_well<L: Ledger>(
     steps: &mut Steps<L>,
 ) -> Result<bool, Fail> {
     let mut shelf = shelf_of(alloc, &TRIANGLE, case.shelf)?;
-    shelf.add("old.pemb", &bytes_of(alloc, &OLD_TRIANGLE)?)?;
+    shelf.add("old.pemb", &bytes_of(alloc, &old_triangle())?)?;
     let mut out = MemorySink::new(alloc, case.sink);
     let status = run_unasked(alloc, &case.words, &mut shelf, &mut out, steps)?;
     let held = holds_front(alloc, shelf.file(case.words[2]), case.held)?;
@@ -1360,7 +1172,7 @@ const DUMP: [&str; 3] = ["dump", "old.pemb", "maps"];
 /// Whether the triangle's tables are written as they were, and built into its file again.
 fn dumps_well<L: Ledger>(alloc: Global, steps: &mut Steps<L>) -> Result<bool, Fail> {
     let mut shelf = MemoryShelf::new(alloc, &[]);
-    shelf.add("old.pemb", &bytes_of(alloc, &OLD_TRIANGLE)?)?;
+    shelf.add("old.pemb", &bytes_of(alloc, &old_triangle())?)?;
     let mut out = MemorySink::new(alloc, &[]);
     let dumped = run_unasked(alloc, &DUMP, &mut shelf, &mut out, steps)?;
     let built = run_unasked(alloc, &BUILD, &mut shelf, &mut out, steps)?;
@@ -1381,7 +1193,7 @@ fn dumps_well<L: Ledger>(alloc: Global, steps: &mut Steps<L>) -> Result<bool, Fa
 /// Whether a dump whose second table is written in part leaves the first one whole, and starts no third.
 fn dumps_in_part<L: Ledger>(alloc: Global, steps: &mut Steps<L>) -> Result<bool, Fail> {
     let mut shelf = MemoryShelf::new(alloc, &[6]);
-    shelf.add("old.pemb", &bytes_of(alloc, &OLD_TRIANGLE)?)?;
+    shelf.add("old.pemb", &bytes_of(alloc, &old_triangle())?)?;
     let mut out = MemorySink::new(alloc, &[]);
     let dumped = run_unasked(alloc, &DUMP, &mut shelf, &mut out, steps)?;
     let held = match shelf.file("maps/edge.csv") {
@@ -1739,7 +1551,7 @@ fn changed_bytes(alloc: Global, image: &[u64], changes: &[(usize, u64)]) -> Resu
             words[at] = word;
         }
     }
-    bytes_of(alloc, &words)
+    Ok(bytes_of(alloc, &words)?)
 }
 
 /// How `check` ends of a file of these bytes, and what it tells.
@@ -1818,7 +1630,7 @@ fn first_wrong_file<L: Ledger>(alloc: Global, blank: Blank) -> Result<Option<&'s
     requires parts { blank.parts ≡ L.parts }
     requires some { 0 < blank.parts }
 {
-    first_wrong_check::<L>(alloc, &TRIANGLE_IMAGE, &FILES, FLIPPED, blank)
+    first_wrong_check::<L>(alloc, &triangle(), &FILES, FLIPPED, blank)
 }
 
 /// The same of a file of form 1.
@@ -1830,7 +1642,7 @@ fn first_wrong_old_file<L: Ledger>(
     requires parts { blank.parts ≡ L.parts }
     requires some { 0 < blank.parts }
 {
-    first_wrong_check::<L>(alloc, &OLD_TRIANGLE, &OLD_FILES, OLD_FLIPPED, blank)
+    first_wrong_check::<L>(alloc, &old_triangle(), &OLD_FILES, OLD_FLIPPED, blank)
 }
 
 #[test]
@@ -1975,7 +1787,7 @@ fn all_told_well<L: Ledger>(
 /// A shelf that holds the island's file in form 1, and that of a grid.
 fn shelf_of_files(alloc: Global) -> Result<Option<MemoryShelf<'static>>, Fail> {
     let mut shelf = MemoryShelf::new(alloc, &[]);
-    shelf.add("map.pemb", &bytes_of(alloc, &OLD_ISLE)?)?;
+    shelf.add("map.pemb", &bytes_of(alloc, &old_island())?)?;
     match grid_image(alloc, 4) {
         Ok(image) => shelf.add("grid.pemb", &image)?,
         Err(_) => return Ok(None),
@@ -2061,7 +1873,7 @@ fn queries_failing<L: Ledger>(
     steps: &mut Steps<L>,
 ) -> Result<(Status, Vec<u8>), Fail> {
     let mut shelf = MemoryShelf::new(alloc, &[]);
-    shelf.add("map.pemb", &bytes_of(alloc, &TRIANGLE_IMAGE)?)?;
+    shelf.add("map.pemb", &bytes_of(alloc, &triangle())?)?;
     let mut script = MemorySource::new(b"node 1\nnode 2\nnode 3\n", 7, script);
     let mut out = MemorySink::new(alloc, out);
     let words = ["query", "map.pemb"];

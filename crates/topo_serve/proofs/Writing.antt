@@ -1,19 +1,9 @@
 -- Bytes that are put or gathered, one after another.
-use Rattle.std.proofs.Common.{◌≡◌, ℕ, ◌≤◌, List, [], ◌++◌, Option, None, Some, Result, Ok, Err, refl, sym, ap, ◌∙◌, append_assoc, append-nil, arith}
+use Rattle.std.proofs.Common.{◌≡◌, ℕ, ◌≤◌, List, [], ◌++◌, Option, Result, Ok, Err, refl, sym, ap, ◌∙◌, append_assoc, append-nil, arith}
 use Rattle.std.specs.Prelude.{IsErrAnd}
-use Rattle.std.specs.Io.KnownBytes.{Appends}
 use Rattle.ports.specs.Outside.{Rose}
+use Rattle.ports.proofs.Written.{appends_nothing, appends_more}
 use Rattle.topo_serve.specs.Gathering.{Out, out_at, Writes}
-
-appends_nothing : (known : Option (List ℕ)) → Appends known known []
-appends_nothing None = tt
-appends_nothing (Some xs) = sym (append-nil xs)
-
-appends_more : (a b c : Option (List ℕ)) (xs ys : List ℕ) → Appends a b xs → Appends b c ys → Appends a c (xs ++ ys)
-appends_more None b c xs ys p q = tt
-appends_more (Some a) None c xs ys p q = absurd p
-appends_more (Some a) (Some b) None xs ys p q = absurd q
-appends_more (Some a) (Some b) (Some c) xs ys p q = q ∙ ap (λ z. z ++ ys) p ∙ append_assoc a xs ys
 
 joined : (put xs ys a b c : List ℕ) (more : List ℕ) → put ++ b ≡ a ++ xs → more ++ c ≡ b ++ ys → (put ++ more) ++ c ≡ a ++ (xs ++ ys)
 joined put xs ys a b c more p q = append_assoc put more c ∙ ap (λ z. put ++ z) q ∙ sym (append_assoc put b ys) ∙ ap (λ z. z ++ ys) p ∙ append_assoc a xs ys

@@ -7,6 +7,7 @@ mod hostile_scripts;
 
 use crate::{ServeFault, serve};
 use bit_words::Steps;
+use image_words::{bytes_of, island, old_island, triangle};
 use pemb_file::open;
 use ports::{MemorySink, MemorySource};
 use scratch_region::Region;
@@ -14,218 +15,6 @@ use std::alloc::Global;
 use std::marker::Brand;
 use std::sync::ledger::{Blank, Ledger};
 use std::test::Fail;
-
-/// The words of the file of a triangle: edges 1, 2 and 3 round face 1, nodes 1, 2 and 3.
-fn triangle() -> [u64; 54] {
-    [
-        5715155150441366864,
-        2,
-        11655068249236111977,
-        10962294722090517995,
-        4994991234104721175,
-        18228769027759430338,
-        3,
-        2,
-        1,
-        0,
-        0,
-        0,
-        0,
-        0,
-        0,
-        27,
-        17179869184,
-        3,
-        8589934592,
-        0,
-        1,
-        4294967296,
-        0,
-        25769803776,
-        0,
-        7,
-        12884901888,
-        4611686018427387905,
-        864691128455135232,
-        0,
-        33,
-        0,
-        0,
-        7,
-        12884901888,
-        4611686018427387905,
-        864691128455135232,
-        0,
-        24,
-        0,
-        0,
-        1,
-        4294967296,
-        1,
-        0,
-        0,
-        0,
-        0,
-        0,
-        0,
-        0,
-        0,
-        0,
-        0,
-    ]
-}
-
-/// The words of the file of this triangle with a closed edge in it, 4 at node 4, round face 2, and node 5 in face 2.
-/// Face 1 is in region 2, which lies in region 1, and face 2 is in region 1.
-fn island() -> [u64; 68] {
-    [
-        5715155150441366864,
-        2,
-        15871800027431055987,
-        6222024572385703295,
-        17804374802572391335,
-        5745306103414178655,
-        4,
-        2,
-        2,
-        1,
-        2,
-        2,
-        0,
-        0,
-        0,
-        27,
-        17179869184,
-        3,
-        8589934592,
-        0,
-        5,
-        8589934592,
-        0,
-        25769803776,
-        8,
-        0,
-        31,
-        21474836480,
-        2305843009213693953,
-        216172782113783808,
-        18014398509481984,
-        1407374883553280,
-        0,
-        17433,
-        5,
-        8589934592,
-        2,
-        15,
-        17179869184,
-        2305843009213693953,
-        216172782113783808,
-        18014398509481984,
-        0,
-        1616,
-        0,
-        0,
-        3,
-        8589934592,
-        4611686018427387905,
-        0,
-        4,
-        0,
-        0,
-        4294967296,
-        4294967296,
-        2,
-        3,
-        8589934592,
-        0,
-        3,
-        8589934592,
-        4611686018427387905,
-        0,
-        4,
-        0,
-        0,
-        8589934592,
-        1,
-    ]
-}
-
-/// The words of the same file in form 1.
-fn old_island() -> [u64; 62] {
-    [
-        5715155150441366864,
-        1,
-        4602403666782430311,
-        12025118805513395373,
-        14371752236015502835,
-        11859239068440839175,
-        4,
-        2,
-        2,
-        1,
-        2,
-        2,
-        0,
-        0,
-        0,
-        27,
-        17179869184,
-        3,
-        8589934592,
-        0,
-        5,
-        8589934592,
-        0,
-        25769803776,
-        8,
-        0,
-        31,
-        21474836480,
-        216172782650654721,
-        1407374887747584,
-        0,
-        17433,
-        5,
-        8589934592,
-        2,
-        15,
-        17179869184,
-        216172782650654721,
-        4194304,
-        1616,
-        0,
-        0,
-        3,
-        8589934592,
-        1073741825,
-        4,
-        0,
-        0,
-        4294967296,
-        4294967296,
-        2,
-        3,
-        8589934592,
-        0,
-        3,
-        8589934592,
-        1073741825,
-        4,
-        0,
-        0,
-        8589934592,
-        1,
-    ]
-}
-
-/// The bytes of these words, the lowest byte of each first.
-fn bytes(alloc: Global, words: &[u64]) -> Result<Vec<u8>, Fail> {
-    let mut bytes = Vec::new(alloc);
-    for word in words.iter() {
-        bytes.extend_from_slice(&word.to_le_bytes())?;
-    }
-    Ok(bytes)
-}
 
 /// Serves a script from the file of these bytes. None where it isn't opened.
 fn served<C: Ledger>(
@@ -288,7 +77,7 @@ fn script(alloc: Global) -> Result<Vec<u8>, Fail> {
 #[test]
 fn pieces_of_each_size_give_the_same_answers(rt: HostRuntime) -> Result<(), Fail> {
     let alloc = rt.alloc();
-    let file = bytes(alloc, &island())?;
+    let file = bytes_of(alloc, &island())?;
     let text = script(alloc)?;
     for piece in [1, 2, 3, 4, 5, 6, 7, 8, 9, 255, 256, 257, 258] {
         let mut script = MemorySource::new(text.as_slice(), piece, &[]);
@@ -303,7 +92,7 @@ fn pieces_of_each_size_give_the_same_answers(rt: HostRuntime) -> Result<(), Fail
 #[test]
 fn a_file_of_form_1_gives_the_same_answers(rt: HostRuntime) -> Result<(), Fail> {
     let alloc = rt.alloc();
-    let file = bytes(alloc, &old_island())?;
+    let file = bytes_of(alloc, &old_island())?;
     let text = script(alloc)?;
     let mut script = MemorySource::new(text.as_slice(), 4096, &[]);
     let mut out = MemorySink::new(alloc, &[]);
@@ -316,7 +105,7 @@ fn a_file_of_form_1_gives_the_same_answers(rt: HostRuntime) -> Result<(), Fail> 
 #[test]
 fn each_failing_write_leaves_a_front_of_the_answers(rt: HostRuntime) -> Result<(), Fail> {
     let alloc = rt.alloc();
-    let file = bytes(alloc, &island())?;
+    let file = bytes_of(alloc, &island())?;
     let text = script(alloc)?;
     let mut failed = 0;
     for call in 1..100 {
@@ -339,7 +128,7 @@ fn each_failing_write_leaves_a_front_of_the_answers(rt: HostRuntime) -> Result<(
 #[test]
 fn a_triangle_is_answered(rt: HostRuntime) -> Result<(), Fail> {
     let alloc = rt.alloc();
-    let file = bytes(alloc, &triangle())?;
+    let file = bytes_of(alloc, &triangle())?;
     let mut script = MemorySource::new(
         b"face 1\nface 0\nnode 1\nnode 2\nnext -1\nends -1\nsides 1\nadjacent 0\ncontains 1\nislands 0\ncounts\n",
         64,
@@ -360,7 +149,7 @@ sides 1: 1 0\nadjacent 0: 1\ncontains 1: 0\nislands 0: -1\ncounts: 3 3 1 1 0\n"
 #[test]
 fn a_read_fault_leaves_the_answers_of_lines_that_ended(rt: HostRuntime) -> Result<(), Fail> {
     let alloc = rt.alloc();
-    let file = bytes(alloc, &triangle())?;
+    let file = bytes_of(alloc, &triangle())?;
     let mut script = MemorySource::new(b"node 1\nnode 2\nnode 3\n", 7, &[3]);
     let mut out = MemorySink::new(alloc, &[]);
     let result = served::<Brand>(alloc, Blank::new(1), file.as_slice(), &mut script, &mut out);
@@ -372,7 +161,7 @@ fn a_read_fault_leaves_the_answers_of_lines_that_ended(rt: HostRuntime) -> Resul
 #[test]
 fn lines_after_bad_ones_are_answered(rt: HostRuntime) -> Result<(), Fail> {
     let alloc = rt.alloc();
-    let file = bytes(alloc, &triangle())?;
+    let file = bytes_of(alloc, &triangle())?;
     let mut text = Vec::new(alloc);
     text.extend_from_slice(b"\n# x\nnode 99\nnode x\nnode 0\n")?;
     text.extend_from_slice(&[b'a'; 256])?;

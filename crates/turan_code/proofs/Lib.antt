@@ -2,5 +2,4 @@ pub mod Views
 pub mod Faults
 pub mod Picked
 pub mod Numbered
-pub mod WordBytes
 pub mod MadeCode

@@ -11,11 +11,12 @@ use Rattle.code_laws.specs.Code.{Code, is_tree, is_first, parens, place, mate, c
 use Rattle.code_laws.specs.Numbers.{edge_of, node_of, ring_of, node_or_root, shell_or_outer, pair_round, tree_edges, first_of_edge, first_of_node, first_of_shell, opening_position, one_on, edge_count, node_count, shell_count}
 use Rattle.code_laws.specs.SeqFault.{is_sound}
 use Rattle.code_laws.specs.declared.ring_number.RingNumber.TheVariants.{Outer, Shell}
+use Rattle.rank_select.proofs.Selects.{selected}
 use Rattle.code_laws.proofs.Sound.{sound_parts, rises, start_within, places_within, in_one, is_component, first_start, last_start}
 use Rattle.code_laws.proofs.Edges.{place_in, laws, edge_within}
 use Rattle.code_laws.proofs.Mates.{first_at}
 use Rattle.code_laws.proofs.Numbered.{round_below}
-use Rattle.code_laws.proofs.Selects.{selected, pairs, edge_by_select, node_by_select, edge_none, node_none, shell_none, shell_by_select, node_within, node_first-within, shell_first-within}
+use Rattle.code_laws.proofs.Selects.{pairs, edge_by_select, node_by_select, edge_none, node_none, shell_none, shell_by_select, node_within, node_first-within, shell_first-within}
 
 pub ruleset halving = (digits-halved, digits-mono)
 

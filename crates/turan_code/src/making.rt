@@ -1,11 +1,10 @@
 //! The words of a code, made of a walk.
 
-ghost use Rattle.std.specs.Prelude.{◌≡◌, ◌≤◌, length, IfOk, Bool};
-ghost use Rattle.bit_words.specs.Packed.{PackedList};
+ghost use Rattle.std.specs.Prelude.{◌≡◌, ◌≤◌, length, IfOk};
 ghost use Rattle.code_laws.specs.Tour.{picked, code_of};
 ghost use Rattle.turan_code.specs.CodeWords.{AreWordsOf};
 
-use bit_words::{BitMaker, Memory, PackedMaker};
+use bit_words::{BitMaker, Memory, all_bits, all_numbers};
 use rank_select::make_counts;
 use std::alloc::Global;
 
@@ -32,18 +31,6 @@ pub struct CodeWords {
     pub starts: Vec<u64>,
 }
 
-/// The bits of a list.
-fn all_bits(alloc: Global, bits: &[bool]) -> Result<BitMaker, Memory>
-    requires { length bits.now ≤ 2147483647 }
-    ensures { IfOk result (λ maker. maker ≡ bits.now) }
-{
-    let mut maker = BitMaker::new(alloc);
-    for bit in bits {
-        maker.push(*bit)?;
-    }
-    Ok(maker)
-}
-
 /// For each position of one kind, whether it is the first of its edge.
 fn bits_of_kind(
     alloc: Global,
@@ -60,18 +47,6 @@ fn bits_of_kind(
         if tree[p] == kind {
             maker.push(first[p])?;
         }
-    }
-    Ok(maker)
-}
-
-/// Numbers by 32 bits each.
-fn packed(alloc: Global, items: &[u32]) -> Result<PackedMaker, Memory>
-    requires { length items.now ≤ 2147483647 }
-    ensures { IfOk result (λ maker. maker ≡ record { width = 32; items = items.now }) }
-{
-    let mut maker = PackedMaker::new(alloc, 32);
-    for item in items {
-        maker.push(u64::from(*item))?;
     }
     Ok(maker)
 }
@@ -98,7 +73,7 @@ pub fn make(
     let dual_counts = make_counts(alloc, &dual)?;
     let b_tree = min_max_tree::make(alloc, &b)?;
     let dual_tree = min_max_tree::make(alloc, &dual)?;
-    let starts = packed(alloc, starts)?;
+    let starts = all_numbers(alloc, starts)?;
     Ok(CodeWords {
         a: a.finish(),
         a_counts: a_counts.finish(),

@@ -1,6 +1,6 @@
 //! The numbers of a code at all its positions, by reading it once with two stacks.
 
-ghost use Rattle.std.specs.Prelude.{◌≡◌, ◌<◌, ◌≤◌, ◌+◌, ◌⊎◌, true, false, [], ◌∷◌, ◌++◌, length, filter, IfOk, OnOk, IsTrue};
+ghost use Rattle.std.specs.Prelude.{◌≡◌, ◌<◌, ◌≤◌, ◌+◌, ◌⊎◌, true, false, [], ◌∷◌, ◌++◌, length, IfOk, OnOk, IsTrue};
 ghost use Rattle.code_laws.specs.Code.{component_of, component_count};
 ghost use Rattle.code_laws.specs.Numbers.{tree_edges, edge_of, node_of, ring_of};
 ghost use Rattle.code_laws.specs.Rounds.{IsLastOf};
@@ -8,7 +8,7 @@ ghost use Rattle.code_laws.specs.SeqFault.{is_sound};
 ghost use Rattle.code_laws.specs.Tour.{code_of, ring_code, edge_numbers, node_numbers, ring_numbers};
 ghost use Rattle.turan_code.specs.Numbering.{code_of_walk, IsWalk, Passes, AreRound, HaveBegun, IsGap, AreNumbers, AreNumbered};
 
-use bit_words::Memory;
+use bit_words::{Memory, ones};
 use std::alloc::Global;
 
 /// The numbers of a code, one entry for each position.
@@ -74,13 +74,6 @@ fn push(numbers: &mut Vec<u32>, number: u32) -> Result<(), Memory>
         Ok(()) => Ok(()),
         Err(_) => Err(Memory),
     }
-}
-
-/// How many of these bits are set.
-fn ones(bits: &[bool]) -> usize
-    ensures { result ≡ length (filter (λ bit. bit) bits.now) }
-{
-    bits.iter().filter(|bit| **bit).count()
 }
 
 impl<'a> Walk<'a> {

@@ -1,13 +1,11 @@
 //! Names as bytes, and their parts read from these.
 
-ghost use Rattle.std.specs.Prelude.{◌≡◌, length, IfSome};
-ghost use Rattle.bit_words.specs.BitView.{bits_of};
-ghost use Rattle.bit_words.specs.PackedView.{fields_of, width_of};
+ghost use Rattle.std.specs.Prelude.{IfSome};
 ghost use Rattle.id_names.specs.Parts.{HasSizes};
 
 use crate::inverse::binary_digits;
 use crate::{NameParts, NameWords};
-use bit_words::{BitView, PackedView, WordView};
+use image_words::{bits_in, bytes_of, fields_in};
 use std::alloc::Global;
 use std::test::Fail;
 
@@ -41,15 +39,6 @@ pub(super) struct Image {
     back: Vec<u8>,
 }
 
-/// The bytes of these words, the lowest byte of each first.
-fn bytes_of(alloc: Global, words: &[u64]) -> Result<Vec<u8>, Fail> {
-    let mut bytes = Vec::new(alloc);
-    for word in words {
-        bytes.extend_from_slice(&word.to_le_bytes())?;
-    }
-    Ok(bytes)
-}
-
 /// The image of these words.
 pub(super) fn image_of(alloc: Global, words: Words) -> Result<Image, Fail> {
     Ok(Image {
@@ -66,32 +55,6 @@ pub(super) fn image_of(alloc: Global, words: Words) -> Result<Image, Fail> {
     })
 }
 
-/// The first `len` bits of these bytes. None where there are too few.
-fn bit_part(bytes: &[u8], len: usize) -> Option<BitView<'_>>
-    ensures { IfSome result (λ bits. length (bits_of bits) ≡ len) }
-{
-    let words = WordView::new(bytes)?;
-    if len.div_ceil(64) > words.len() {
-        return None;
-    }
-    Some(BitView::new(words, len))
-}
-
-/// The first `count` numbers of `width` bits in these bytes. None where there are too few.
-fn packed_part(bytes: &[u8], count: usize, width: u32) -> Option<PackedView<'_>>
-    ensures count { IfSome result (λ fields. length (fields_of fields) ≡ count) }
-    ensures width { IfSome result (λ fields. width_of fields ≡ width) }
-{
-    let words = WordView::new(bytes)?;
-    if width == 0 || width > 64 || count > 2147483647 {
-        return None;
-    }
-    if (count * width as usize).div_ceil(64) > words.len() {
-        return None;
-    }
-    Some(PackedView::new(words, count, width))
-}
-
 /// The parts of an image. None where its sizes do not fit.
 pub(super) fn parts_of(image: &Image) -> Option<NameParts<'_>>
     ensures { IfSome result (λ parts. HasSizes parts) }
@@ -103,17 +66,17 @@ pub(super) fn parts_of(image: &Image) -> Option<NameParts<'_>>
     let len = image.count + (1 << digits);
     let width = digits.max(1);
     Some(NameParts {
-        high: bit_part(image.high.as_slice(), len)?,
-        high_counts: packed_part(image.high_counts.as_slice(), len.div_ceil(512) + 1, 32)?,
-        lows: packed_part(image.lows.as_slice(), image.count, image.low)?,
-        places: packed_part(image.places.as_slice(), image.count, width)?,
-        marks: bit_part(image.marks.as_slice(), image.count)?,
-        mark_counts: packed_part(
+        high: bits_in(image.high.as_slice(), len)?,
+        high_counts: fields_in(image.high_counts.as_slice(), len.div_ceil(512) + 1, 32)?,
+        lows: fields_in(image.lows.as_slice(), image.count, image.low)?,
+        places: fields_in(image.places.as_slice(), image.count, width)?,
+        marks: bits_in(image.marks.as_slice(), image.count)?,
+        mark_counts: fields_in(
             image.mark_counts.as_slice(),
             image.count.div_ceil(512) + 1,
             32,
         )?,
-        back: packed_part(image.back.as_slice(), image.marked, width)?,
+        back: fields_in(image.back.as_slice(), image.marked, width)?,
     })
 }
 

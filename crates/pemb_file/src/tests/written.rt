@@ -8,186 +8,6 @@ use crate::{ImageParts, write_image, write_old_image};
 use std::alloc::Global;
 use std::test::Fail;
 
-/// The words of a triangle's file of form 1.
-pub(super) const OLD_TRIANGLE: [u64; 52] = [
-    0x4f504f54424d4550,
-    1,
-    0xcd446cffc1e99544,
-    0x4135ffdf3f829151,
-    0x93ef3e4b62f5dbcc,
-    0x1e1a49fb6423447b,
-    3,
-    2,
-    1,
-    0,
-    0,
-    0,
-    0,
-    0,
-    0,
-    27,
-    4 << 32,
-    3,
-    2 << 32,
-    0,
-    1,
-    1 << 32,
-    0,
-    6 << 32,
-    0,
-    7,
-    3 << 32,
-    864691129528877057,
-    0,
-    33,
-    0,
-    0,
-    7,
-    3 << 32,
-    864691129528877057,
-    0,
-    24,
-    0,
-    0,
-    1,
-    1 << 32,
-    1,
-    0,
-    0,
-    0,
-    0,
-    0,
-    0,
-    0,
-    0,
-    0,
-    0,
-];
-
-/// The words of a triangle's file of form 2.
-pub(super) const NEW_TRIANGLE: [u64; 54] = [
-    0x4f504f54424d4550,
-    2,
-    0xa1bf1ed24ca70269,
-    0x9821e4f8115845eb,
-    0x4551c61015007f17,
-    0xfcf998d9c03e5ac2,
-    3,
-    2,
-    1,
-    0,
-    0,
-    0,
-    0,
-    0,
-    0,
-    27,
-    4 << 32,
-    3,
-    2 << 32,
-    0,
-    1,
-    1 << 32,
-    0,
-    6 << 32,
-    0,
-    7,
-    3 << 32,
-    4611686018427387905,
-    864691128455135232,
-    0,
-    33,
-    0,
-    0,
-    7,
-    3 << 32,
-    4611686018427387905,
-    864691128455135232,
-    0,
-    24,
-    0,
-    0,
-    1,
-    1 << 32,
-    1,
-    0,
-    0,
-    0,
-    0,
-    0,
-    0,
-    0,
-    0,
-    0,
-    0,
-];
-
-/// The words of the file of form 1 of a triangle with a closed edge and a node inside it, and two regions.
-pub(super) const OLD_ISLAND: [u64; 62] = [
-    0x4f504f54424d4550,
-    1,
-    0x3fdf05c01785a467,
-    0xa6e1cdd7807edcad,
-    0xc772b8838ba145f3,
-    0xa4947b198cd9c407,
-    4,
-    2,
-    2,
-    1,
-    2,
-    2,
-    0,
-    0,
-    0,
-    27,
-    4 << 32,
-    3,
-    2 << 32,
-    0,
-    5,
-    2 << 32,
-    0,
-    6 << 32,
-    8,
-    0,
-    31,
-    5 << 32,
-    216172782650654721,
-    1407374887747584,
-    0,
-    17433,
-    5,
-    2 << 32,
-    2,
-    15,
-    4 << 32,
-    216172782650654721,
-    4194304,
-    1616,
-    0,
-    0,
-    3,
-    2 << 32,
-    1073741825,
-    4,
-    0,
-    0,
-    1 << 32,
-    1 << 32,
-    2,
-    3,
-    2 << 32,
-    0,
-    3,
-    2 << 32,
-    1073741825,
-    4,
-    0,
-    0,
-    2 << 32,
-    1,
-];
-
 /// Whether these are the bytes of these words, the lowest byte of each first.
 fn is_image(alloc: Global, image: &[u8], words: &[u64]) -> Result<bool, Fail> {
     let mut bytes = Vec::new(alloc);
@@ -249,7 +69,7 @@ fn a_triangle_is_written_in_form_1(rt: HostRuntime) -> Result<(), Fail> {
     let alloc = rt.alloc();
     let parts = triangle(alloc)?;
     let image = write_old_image(alloc, &parts)?;
-    assert!(rt; is_image(alloc, &image, &OLD_TRIANGLE)?);
+    assert!(rt; is_image(alloc, &image, &old_triangle())?);
     Ok(())
 }
 
@@ -258,7 +78,7 @@ fn a_triangle_is_written_in_form_2(rt: HostRuntime) -> Result<(), Fail> {
     let alloc = rt.alloc();
     let parts = triangle(alloc)?;
     let image = write_image(alloc, &parts)?;
-    assert!(rt; is_image(alloc, &image, &NEW_TRIANGLE)?);
+    assert!(rt; is_image(alloc, &image, &triangle())?);
     Ok(())
 }
 
@@ -267,6 +87,6 @@ fn an_island_is_written_in_form_1(rt: HostRuntime) -> Result<(), Fail> {
     let alloc = rt.alloc();
     let parts = island(alloc)?;
     let image = write_old_image(alloc, &parts)?;
-    assert!(rt; is_image(alloc, &image, &OLD_ISLAND)?);
+    assert!(rt; is_image(alloc, &image, &old_island())?);
     Ok(())
 }

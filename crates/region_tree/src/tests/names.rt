@@ -1,16 +1,14 @@
 //! The names of regions as bytes, and as they are read.
 
 ghost use Rattle.std.specs.Prelude.{◌≡◌, ◌≤◌, ◌+◌, length, IfSome};
-ghost use Rattle.bit_words.specs.BitView.{bits_of};
 ghost use Rattle.bit_words.specs.Digits.{digits};
-ghost use Rattle.bit_words.specs.PackedView.{fields_of, width_of};
 ghost use Rattle.id_names.specs.Names.{AreDistinctIds};
 ghost use Rattle.id_names.specs.Parts.{HasSizes};
 ghost use Rattle.topo_base.specs.declared.id.TheConstants.{LARGEST_ID};
 
-use crate::tests::{bytes_of, fields_in};
-use bit_words::{BitView, PackedView, Steps, WordView};
+use bit_words::Steps;
 use id_names::{NameParts, NamesView, check, make};
+use image_words::{bits_in, bytes_of, fields_in};
 use std::alloc::Global;
 use std::sync::ledger::Ledger;
 use std::test::Fail;
@@ -56,17 +54,6 @@ pub(super) fn names_image(alloc: Global, ids: &[IdNumber]) -> Result<NamesImage,
         mark_counts: bytes_of(alloc, &words.mark_counts)?,
         back: bytes_of(alloc, &words.back)?,
     })
-}
-
-/// The first `len` bits of these bytes. None where there are too few.
-fn bits_in(bytes: &[u8], len: usize) -> Option<BitView<'_>>
-    ensures { IfSome result (λ bits. length (bits_of bits) ≡ len) }
-{
-    let words = WordView::new(bytes)?;
-    if len.div_ceil(64) > words.len() {
-        return None;
-    }
-    Some(BitView::new(words, len))
 }
 
 /// The parts of names. None where their sizes do not fit.

@@ -3,8 +3,9 @@
 
 ghost use Rattle.std.specs.Prelude.{◌≡◌, ◌<◌};
 
-use crate::tests::{bytes, island, old_island, served, triangle};
+use crate::tests::served;
 use bit_words::Steps;
+use image_words::{bytes_of, island, old_island, triangle};
 use pemb_file::{FileFault, open};
 use ports::{MemorySink, MemorySource};
 use sha2::{Digest, Sha256};
@@ -305,9 +306,9 @@ fn summed_answers(
 /// The file that is damaged at this turn.
 fn whole(alloc: Global, turn: usize) -> Result<Vec<u8>, Fail> {
     if turn % 2 == 0 {
-        bytes(alloc, &old_island())
+        Ok(bytes_of(alloc, &old_island())?)
     } else {
-        bytes(alloc, &island())
+        Ok(bytes_of(alloc, &island())?)
     }
 }
 
@@ -349,7 +350,7 @@ fn an_edge_turned_round_is_answered_so(rt: HostRuntime) -> Result<(), Fail> {
     words[4] = 3487100673592913456;
     words[5] = 5686580516104849615;
     words[24] = 1;
-    let file = bytes(alloc, &words)?;
+    let file = bytes_of(alloc, &words)?;
     let said = answers(alloc, &file, b"ring 1\nends 1\nsides 1\nnode 1\nface 1\n")?;
     assert_eq!(rt;
         said.as_slice(),

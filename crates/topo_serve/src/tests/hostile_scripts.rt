@@ -1,7 +1,7 @@
 //! Scripts from whoever writes what he likes, of a mebibyte or a million lines.
 
 use crate::tests::damaged_files::{answers, lines_in, sum_of};
-use crate::tests::{bytes, island};
+use image_words::{bytes_of, island};
 use std::alloc::{AllocError, Global};
 use std::test::Fail;
 
@@ -22,7 +22,7 @@ fn random_script(alloc: Global) -> Result<Vec<u8>, AllocError> {
 #[test]
 fn random_bytes_are_answered(rt: HostRuntime) -> Result<(), Fail> {
     let alloc = rt.alloc();
-    let file = bytes(alloc, &island())?;
+    let file = bytes_of(alloc, &island())?;
     let said = answers(alloc, &file, &random_script(alloc)?)?;
     assert_eq!(rt; lines_in(&said), 2663 + 1469);
     assert_eq!(rt; said.len(), 4 * 2663 + 5 * 1469);
@@ -33,7 +33,7 @@ fn random_bytes_are_answered(rt: HostRuntime) -> Result<(), Fail> {
 #[test]
 fn a_mebibyte_in_one_line_is_long(rt: HostRuntime) -> Result<(), Fail> {
     let alloc = rt.alloc();
-    let file = bytes(alloc, &island())?;
+    let file = bytes_of(alloc, &island())?;
     let mut script = vec![in alloc; b'1'; 1_048_576]?;
     let said = answers(alloc, &file, &script)?;
     assert_eq!(rt; said.as_slice(), b"long\n".as_slice());
@@ -46,7 +46,7 @@ fn a_mebibyte_in_one_line_is_long(rt: HostRuntime) -> Result<(), Fail> {
 #[test]
 fn a_million_empty_lines_are_not_answered(rt: HostRuntime) -> Result<(), Fail> {
     let alloc = rt.alloc();
-    let file = bytes(alloc, &island())?;
+    let file = bytes_of(alloc, &island())?;
     let mut script = vec![in alloc; b'\n'; 1_000_000]?;
     script.extend_from_slice(b"next 1")?;
     let said = answers(alloc, &file, &script)?;

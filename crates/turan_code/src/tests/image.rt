@@ -14,6 +14,7 @@ ghost use Rattle.turan_code.specs.TuranView.{code_of_view};
 use crate::sequences::Sequences;
 use crate::{TuranParts, TuranView, check, make};
 use bit_words::{BitView, PackedView, Steps, WordView};
+use image_words::bytes_of;
 use min_max_tree::MinMaxView;
 use parens::{ParenView, check_balanced};
 use rank_select::RankView;
@@ -69,17 +70,6 @@ impl Model for Image {
     ghost Value = { Code };
 
     ghost view = { λ i. code_with i.a i.tree i.dual (fields_in (words_in (length i.starts.items / 8) i.starts.items) i.start_count 32) };
-}
-
-/// The bytes of these words, the lowest byte of each first.
-fn bytes_of(alloc: Global, words: &[u64]) -> Result<Vec<u8>, Fail>
-    ensures { IfOk result (λ bytes. words_in (length bytes.items / 8) bytes.items ≡ words.now) }
-{
-    let mut bytes = Vec::new(alloc);
-    for word in words {
-        bytes.extend_from_slice(&word.to_le_bytes())?;
-    }
-    Ok(bytes)
 }
 
 /// How many of these are this bit.
