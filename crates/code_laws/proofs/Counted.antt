@@ -8,8 +8,8 @@ use Rattle.bit_words.specs.Lists.{is_at}
 use Rattle.bit_words.specs.Bits.{rank, excess, same}
 use Rattle.bit_words.proofs.Ranks.{rank_both, rank_more_yes, rank_more_no}
 use Rattle.bit_words.proofs.Finds.{find-least, least-find}
-use Rattle.parens.specs.Matching.{is_open}
 use Rattle.rank_select.proofs.Selects.{cases_kind, same-self, same-other}
+use Rattle.parens.specs.Matching.{is_open}
 use Rattle.parens.proofs.Arcs.{IsArc, arc-opens, arc-closes}
 use Rattle.code_laws.specs.Code.{Code, positions, is_tree, is_first, parens, place, component_of, component_count, start_of, end_of}
 use Rattle.code_laws.specs.Numbers.{node_of, ring_of, pair_round, is_ring}

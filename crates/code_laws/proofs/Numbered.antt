@@ -4,8 +4,8 @@ use Rattle.std.specs.List.{range_with_len}
 use Rattle.std.proofs.Common.{◌≡◌, ℕ, zero, suc, ◌+◌, ◌-◌, ◌<◌, ◌≤◌, inl, inr, Bool, true, false, List, [], ◌∷◌, length, refl, ap, sym, ◌∙◌, arith, subst, Option, Some, None}
 use Rattle.std.proofs.lemmas.Bool.{cases_lt, cases_Bool, cases_order, and_parts, both_ways, leb-true}
 use Rattle.bit_words.specs.Bits.{rank}
-use Rattle.parens.specs.Matching.{is_open, close_of, is_from, is_round, innermost}
 use Rattle.rank_select.proofs.Selects.{select-placed}
+use Rattle.parens.specs.Matching.{is_open, close_of, is_from, is_round, innermost}
 use Rattle.parens.proofs.Arcs.{IsArc, arc-close, close-arc, arc-opens, arc-closes}
 use Rattle.code_laws.specs.Code.{Code, is_tree, parens, place, mate, component_of, end_of}
 use Rattle.code_laws.specs.Numbers.{node_of, ring_of, node_or_root, shell_or_outer, pair_round}

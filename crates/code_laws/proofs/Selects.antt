@@ -6,10 +6,10 @@ use Rattle.std.proofs.lemmas.Bool.{cases_lt, cases_Bool, both_ways, eqb-true, eq
 use Rattle.bit_words.specs.Bits.{rank, select}
 use Rattle.bit_words.proofs.Ranks.{rank_both}
 use Rattle.bit_words.proofs.Finds.{find-none, least-find}
+use Rattle.rank_select.proofs.Selects.{select-placed, selected_none}
 use Rattle.parens.specs.Matching.{is_open}
 use Rattle.code_laws.specs.Code.{Code, is_tree, is_first, parens, place, mate, component_count, start_of}
 use Rattle.code_laws.specs.Numbers.{edge_of, node_of, ring_of, node_or_root, shell_or_outer, is_shell, pair_round, tree_edges, first_of_edge, first_of_node, first_of_shell, opening_position, one_on, edge_count, node_count, shell_count}
-use Rattle.rank_select.proofs.Selects.{select-placed, selected_none}
 use Rattle.code_laws.proofs.Sound.{SoundParts, whole, all_places, in_one}
 use Rattle.code_laws.proofs.Mates.{first_at}
 use Rattle.code_laws.proofs.Edges.{half, closed, first_edge, before_kind, edge_of_kind, edge_within, laws, second}

@@ -14,8 +14,8 @@ use Rattle.plane_model.specs.InRange.{is_id, is_face_id, is_none_or}
 use Rattle.plane_model.specs.Regions.{parent, upward, parents, is_region, is_region_or_none, is_region_forest}
 use Rattle.plane_model.proofs.Sorting.{rising-has}
 use Rattle.bit_words.specs.Bits.{rank, select}
-use Rattle.parens.specs.Matching.{is_open, close_of, is_from, is_round, innermost}
 use Rattle.rank_select.proofs.Selects.{select-placed}
+use Rattle.parens.specs.Matching.{is_open, close_of, is_from, is_round, innermost}
 use Rattle.parens.proofs.Greatest.{greatest-find}
 use Rattle.code_laws.proofs.Apart.{fewer}
 use Rattle.code_laws.proofs.Edges.{half}

@@ -3,7 +3,6 @@ use Rattle.std.specs.Prelude.{find, slice_index, option_map, IsTrue}
 use Rattle.std.proofs.Common.{◌≡◌, ◌≢◌, ℕ, zero, suc, ◌+◌, ◌<◌, ◌≤◌, inl, inr, Bool, true, false, ◌==◌, List, [], ◌∷◌, map, length, refl, ap, sym, ◌∙◌, subst, arith, Option, Some, None, eq-eqb}
 use Rattle.std.proofs.lemmas.Bool.{cases_Bool, both_ways, eqb-true, ne_eqb, or_left, or_right}
 use Rattle.bit_words.specs.Bits.{rank, select}
-use Rattle.rank_select.proofs.Selects.{select-placed}
 use Rattle.code_laws.proofs.Apart.{fewer}
 use Rattle.parens.specs.Matching.{is_open, is_round, innermost}
 use Rattle.parens.proofs.Balances.{IsBalanced, balanced}
@@ -11,8 +10,9 @@ use Rattle.parens.proofs.Greatest.{greatest-find}
 use Rattle.plane_model.specs.Sets.{has}
 use Rattle.plane_model.specs.PlaneMap.{PlaneMap}
 use Rattle.plane_model.specs.Regions as regions
+use Rattle.rank_select.proofs.Selects.{select-placed}
 use Rattle.region_tree.specs.Nesting.{region_count, parent_number, upward, chain, common_number}
-use Rattle.region_tree.specs.Numbering.{AreNumbered}
+use Rattle.region_tree.specs.Numbering.{RegionsAreNumbered}
 use Rattle.region_tree.proofs.Opened.{parent-rank, round_open}
 
 -- a parent has a lower number
@@ -53,7 +53,7 @@ find-renamed f n apart (x ∷ xs) ys wx wy =
           | inr e ↦ let g = ne_eqb (f x) (f y) (λ s. both_ways _ e (eq-eqb x y (apart x y l (w y (or_left _ _ (eq-eqb y y refl))) s))) in rw (e, g) more
         ]
 
-module _ (m : PlaneMap) (bits : List Bool) (ids : List ℕ) (are : AreNumbered m bits ids) where
+module _ (m : PlaneMap) (bits : List Bool) (ids : List ℕ) (are : RegionsAreNumbered m bits ids) where
   count_is : region_count bits ≡ length ids
   count_is = are.opens
 

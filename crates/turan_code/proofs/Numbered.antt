@@ -21,8 +21,8 @@ use Rattle.code_laws.proofs.Stacks.{numbers-open, numbers-close, numbers-innermo
 use Rattle.turan_code.specs.declared.numbering.OpenPairs.{OpenPairs}
 use Rattle.turan_code.specs.declared.numbering.Gap.{Gap}
 use Rattle.turan_code.specs.declared.numbering.Numbers.{Numbers}
-use Rattle.turan_code.specs.declared.numbering.Numbering.{Numbering}
-use Rattle.turan_code.specs.Numbering.{Passes, AreRound, HaveBegun, IsGap, AreNumbers, AreNumbered}
+use Rattle.turan_code.specs.declared.numbering.CodeNumbering.{CodeNumbering}
+use Rattle.turan_code.specs.Numbering.{Passes, AreRound, HaveBegun, IsGap, AreNumbersAt, HasLists}
 use Rattle.turan_code.proofs.Views.{place_lt}
 
 -- a list has one last number, or none
@@ -36,11 +36,11 @@ added : (f : ℕ → ℕ) (p x : ℕ) (before after : List ℕ) → before ≡ m
 added f p x before after b e a = a ∙ ap (λ xs. xs ++ x ∷ []) b ∙ ap (λ y. map f (range_with_len 0 p) ++ y ∷ []) e ∙ sym (map-range_with_len_more f 0 p p (omega arith))
 
 -- a numbering of the positions before p
-abbrev pub AreNumberedTo : Code → ℕ → Numbering → Type 0
-AreNumberedTo c p = AreNumbered (map (edge_of c) (range_with_len 0 p)) (map (node_of c) (range_with_len 0 p)) (map (λ q. ring_code (ring_of c q)) (range_with_len 0 p))
+abbrev pub AreNumberedTo : Code → ℕ → CodeNumbering → Type 0
+AreNumberedTo c p = HasLists (map (edge_of c) (range_with_len 0 p)) (map (node_of c) (range_with_len 0 p)) (map (λ q. ring_code (ring_of c q)) (range_with_len 0 p))
 
-pub one_more : (c : Code) (p : ℕ) (before after : Numbering) (numbers : Numbers) → AreNumberedTo c p before → AreNumbers c p numbers
-    → AreNumbered (before.edge.items ++ numbers.edge ∷ []) (before.node.items ++ numbers.node ∷ []) (before.ring.items ++ numbers.ring ∷ []) after → AreNumberedTo c (p + 1) after
+pub one_more : (c : Code) (p : ℕ) (before after : CodeNumbering) (numbers : Numbers) → AreNumberedTo c p before → AreNumbersAt c p numbers
+    → HasLists (before.edge.items ++ numbers.edge ∷ []) (before.node.items ++ numbers.node ∷ []) (before.ring.items ++ numbers.ring ∷ []) after → AreNumberedTo c (p + 1) after
 one_more c p before after numbers b n a =
     record {
       edge = added (edge_of c) p numbers.edge before.edge.items after.edge.items b.edge n.edge a.edge;

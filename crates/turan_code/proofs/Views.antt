@@ -6,12 +6,12 @@ use Rattle.std.proofs.lemmas.Bool.{lt-ltb, le-ltb}
 use Rattle.bit_words.specs.Bits.{rank, select, IsSelected}
 use Rattle.bit_words.specs.Digits.{digits}
 use Rattle.bit_words.proofs.DigitLaws.{digits-halved, digits-mono}
+use Rattle.rank_select.proofs.Selects.{selected}
 use Rattle.parens.specs.Matching.{is_open, mate_of, pair_number, innermost}
 use Rattle.code_laws.specs.Code.{Code, is_tree, is_first, parens, place, mate, component_of, component_count, start_of, end_of}
 use Rattle.code_laws.specs.Numbers.{edge_of, node_of, ring_of, node_or_root, shell_or_outer, pair_round, tree_edges, first_of_edge, first_of_node, first_of_shell, opening_position, one_on, edge_count, node_count, shell_count}
 use Rattle.code_laws.specs.SeqFault.{is_sound}
 use Rattle.code_laws.specs.declared.ring_number.RingNumber.TheVariants.{Outer, Shell}
-use Rattle.rank_select.proofs.Selects.{selected}
 use Rattle.code_laws.proofs.Sound.{sound_parts, rises, start_within, places_within, in_one, is_component, first_start, last_start}
 use Rattle.code_laws.proofs.Edges.{place_in, laws, edge_within}
 use Rattle.code_laws.proofs.Mates.{first_at}

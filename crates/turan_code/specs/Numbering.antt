@@ -10,7 +10,7 @@ use Rattle.turan_code.specs.declared.numbering.Walk.{Walk}
 use Rattle.turan_code.specs.declared.numbering.OpenPairs.{OpenPairs}
 use Rattle.turan_code.specs.declared.numbering.Gap.{Gap}
 use Rattle.turan_code.specs.declared.numbering.Numbers.{Numbers}
-use Rattle.turan_code.specs.declared.numbering.Numbering.{Numbering}
+use Rattle.turan_code.specs.declared.numbering.CodeNumbering.{CodeNumbering}
 
 -- the code of a walk
 abbrev pub code_of_walk : Walk → Code
@@ -46,13 +46,13 @@ pub record IsGap (c : Code) (p : ℕ) (gap : Gap) : Type 0 where
   pub begun : HaveBegun c p gap.begun
 
 -- the numbers at a position
-pub record AreNumbers (c : Code) (p : ℕ) (numbers : Numbers) : Type 0 where
+pub record AreNumbersAt (c : Code) (p : ℕ) (numbers : Numbers) : Type 0 where
   pub edge : numbers.edge ≡ edge_of c p
   pub node : numbers.node ≡ node_of c p
   pub ring : numbers.ring ≡ ring_code (ring_of c p)
 
 -- a numbering with these lists
-pub record AreNumbered (edges nodes rings : List ℕ) (numbering : Numbering) : Type 0 where
+pub record HasLists (edges nodes rings : List ℕ) (numbering : CodeNumbering) : Type 0 where
   pub edge : numbering.edge.items ≡ edges
   pub node : numbering.node.items ≡ nodes
   pub ring : numbering.ring.items ≡ rings
