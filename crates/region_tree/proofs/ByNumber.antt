@@ -4,7 +4,7 @@ use Rattle.std.proofs.Common.{◌≡◌, ◌≢◌, ℕ, zero, suc, ◌+◌, ◌
 use Rattle.std.proofs.lemmas.Bool.{cases_Bool, both_ways, eqb-true, ne_eqb, or_left, or_right}
 use Rattle.bit_words.specs.Bits.{rank, select}
 use Rattle.code_laws.proofs.Apart.{fewer}
-use Rattle.parens.specs.Matching.{is_open, is_round, innermost}
+use Rattle.parens.specs.Matching.{is_open, is_enclosing, innermost}
 use Rattle.parens.proofs.Balances.{IsBalanced, balanced}
 use Rattle.parens.proofs.Greatest.{greatest-find}
 use Rattle.plane_model.specs.Sets.{has}
@@ -20,7 +20,7 @@ lower_at : (bits : List Bool) → IsBalanced bits → (i y : ℕ) → i ≤ leng
 unfolding innermost
 lower_at bits b i y l None e h = cc
 lower_at bits b i y l (Some k) e h =
-    let g = greatest-find (is_round bits i) i k e in
+    let g = greatest-find (is_enclosing bits i) i k e in
     let less = fewer bits b k i g.below l (round_open bits i k g.passes) in
     let same : rank true bits k ≡ y = cc in
     omega (arith, less, same)

@@ -3,10 +3,10 @@
 ghost use Rattle.std.specs.Prelude.{◌≡◌, ◌<◌, ◌≤◌, ◌+◌, ◌⊎◌, true, false, [], ◌∷◌, ◌++◌, length, IfOk, OnOk, IsTrue};
 ghost use Rattle.code_laws.specs.Code.{component_of, component_count};
 ghost use Rattle.code_laws.specs.Numbers.{tree_edges, edge_of, node_of, ring_of};
-ghost use Rattle.code_laws.specs.Rounds.{IsLastOf};
+ghost use Rattle.code_laws.specs.Enclosing.{IsLastOf};
 ghost use Rattle.code_laws.specs.SeqFault.{is_sound};
 ghost use Rattle.code_laws.specs.Tour.{code_of, ring_code, edge_numbers, node_numbers, ring_numbers};
-ghost use Rattle.turan_code.specs.Numbering.{code_of_walk, IsWalk, Passes, AreRound, HaveBegun, IsGap, AreNumbersAt, HasLists};
+ghost use Rattle.turan_code.specs.Numbering.{code_of_walk, IsWalk, Passes, AreEnclosing, HaveBegun, IsGap, AreNumbersAt, HasLists};
 
 use bit_words::{Memory, ones};
 use std::alloc::Global;
@@ -167,11 +167,11 @@ impl Gap {
         requires walk { IsWalk walk }
         requires within { p < length walk.tree.now }
         requires of_trees { of_trees ≡ tree_edges (code_of_walk walk) }
-        requires tree { AreRound (code_of_walk walk) true p self.old.tree }
-        requires dual { AreRound (code_of_walk walk) false p self.old.dual }
+        requires tree { AreEnclosing (code_of_walk walk) true p self.old.tree }
+        requires dual { AreEnclosing (code_of_walk walk) false p self.old.dual }
         ensures edge { IfOk result (λ edge. edge ≡ edge_of (code_of_walk walk.entry) p) }
-        ensures tree { OnOk result (AreRound (code_of_walk walk.entry) true (p + 1) self.new.tree) }
-        ensures dual { OnOk result (AreRound (code_of_walk walk.entry) false (p + 1) self.new.dual) }
+        ensures tree { OnOk result (AreEnclosing (code_of_walk walk.entry) true (p + 1) self.new.tree) }
+        ensures dual { OnOk result (AreEnclosing (code_of_walk walk.entry) false (p + 1) self.new.dual) }
         ensures begun { self.new.begun ≡ self.old.begun }
     {
         let first = walk.first[p];
@@ -187,7 +187,7 @@ impl Gap {
         requires walk { IsWalk walk }
         requires within { p < length walk.tree.now }
         requires component { component ≡ component_of (code_of_walk walk) p }
-        requires tree { AreRound (code_of_walk walk) true p self.now.tree }
+        requires tree { AreEnclosing (code_of_walk walk) true p self.now.tree }
         ensures { result ≡ node_of (code_of_walk walk.entry) p }
     {
         match self.tree.innermost() {
@@ -200,7 +200,7 @@ impl Gap {
     fn ring(&self, walk: Walk<'_>, p: usize) -> u32
         requires walk { IsWalk walk }
         requires within { p < length walk.tree.now }
-        requires dual { AreRound (code_of_walk walk) false p self.now.dual }
+        requires dual { AreEnclosing (code_of_walk walk) false p self.now.dual }
         ensures { result ≡ ring_code (ring_of (code_of_walk walk.entry) p) }
     {
         match self.dual.innermost() {
