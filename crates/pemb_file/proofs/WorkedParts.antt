@@ -1,11 +1,11 @@
 -- What the worked files hold, as parts.
 use Rattle.std.proofs.Common.{[], ◌∷◌, true, false, refl, IsTrue}
-use Rattle.bit_words.specs.Lists.{tabulate}
+use Rattle.bit_words.specs.Lists.{tabulate, first_some}
 use Rattle.bit_words.specs.Bits.{rank, select, excess}
 use Rattle.parens.specs.Matching.{close_of, open_of, mate_of, pair_number, falling, innermost, balance_fault}
 use Rattle.code_laws.specs.Code.{is_first, mate, component_of, after, before}
 use Rattle.code_laws.specs.Numbers.{edge_of, node_of, ring_of, enclosing_pair, first_of_edge, first_of_node, first_of_shell}
-use Rattle.code_laws.specs.SeqFault.{seq_fault, first_some}
+use Rattle.code_laws.specs.SeqFault.{seq_fault}
 use Rattle.code_laws.specs.Tour.{picked, code_of}
 use Rattle.id_names.specs.Names.{number_of, is_names}
 use Rattle.file_laws.specs.Contents.{Contents, contents_with}

@@ -1,9 +1,10 @@
 use Rattle.std.proofs.Common.{refl}
 use Rattle.bit_words.specs.Bits.{rank, select}
+use Rattle.bit_words.specs.Lists.{first_some}
 use Rattle.parens.specs.Matching.{close_of, open_of, mate_of, pair_number, falling, innermost, balance_fault}
 use Rattle.code_laws.specs.Code.{mate, component_of, after, before}
 use Rattle.code_laws.specs.Numbers.{edge_of, node_of, ring_of, enclosing_pair, first_of_shell}
-use Rattle.code_laws.specs.SeqFault.{seq_fault, first_some}
+use Rattle.code_laws.specs.SeqFault.{seq_fault}
 use Rattle.code_laws.specs.Tour.{picked}
 use Rattle.code_laws.proofs.laws.worked_codes.Goals as goal
 
