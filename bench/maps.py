@@ -1,5 +1,6 @@
 """Large maps as tables, and runs of the built program over them."""
 
+import collections
 import os
 import resource
 import subprocess
@@ -52,46 +53,49 @@ def node_by(n):
     return lambda r, c: 1 + r * (n + 1) + c
 
 
-def after_by(leaving, directions):
-    """The next of a signed edge that enters a node in a direction, by what leaves each node clockwise from the north."""
+# edges that run so many cells up and right from a node, and by that node their number and the faces beside them
+Kind = collections.namedtuple("Kind", "up right number left_face right_face")
+
+
+def edges_by(n, kinds):
+    """The edges of n by n cells, one kind after another by their numbers; kinds stand clockwise from the north."""
+    half = len(kinds)
+    node = node_by(n)
+
+    def leaving(r, c, direction):
+        """The signed edge that leaves a node, clockwise from the north, or None: one that begins or ends there."""
+        kind = kinds[direction % half]
+        if direction < half:
+            return kind.number(r, c) if r + kind.up <= n and c + kind.right <= n else None
+        return -kind.number(r - kind.up, c - kind.right) if r >= kind.up and c >= kind.right else None
+
     def after(r, c, direction):
-        for turn in range(1, directions + 1):
-            edge = leaving(r, c, (direction + directions // 2 + turn) % directions)
+        """The next of a signed edge that enters a node in a direction."""
+        for turn in range(1, 2 * half + 1):
+            edge = leaving(r, c, (direction + half + turn) % (2 * half))
             if edge is not None:
                 return edge
         raise AssertionError("a node without edges")
-    return after
+
+    for kind in sorted(kinds, key=lambda kind: kind.number(0, 0)):
+        direction = kinds.index(kind)
+        for r in range(n + 1 - kind.up):
+            for c in range(n + 1 - kind.right):
+                end = r + kind.up, c + kind.right
+                yield (kind.number(r, c), node(r, c), node(*end), after(*end, direction), after(r, c, direction + half),
+                       kind.left_face(r, c), kind.right_face(r, c))
 
 
 def grid_edges(n):
-    """The edges of a grid of n by n cells: east edges first, then north edges."""
-    def east(r, c):
-        return 1 + r * n + c
-
-    def north(r, c):
-        return 1 + n * (n + 1) + r * (n + 1) + c
+    """The edges of a grid of n by n cells: edges to the east, then to the north."""
+    easts = n * (n + 1)
 
     def cell(r, c):
         return 1 + r * n + c if 0 <= r < n and 0 <= c < n else 0
 
-    def leaving(r, c, direction):
-        """The signed edge that leaves a node to the north, east, south or west, or None."""
-        if direction == 0:
-            return north(r, c) if r < n else None
-        if direction == 1:
-            return east(r, c) if c < n else None
-        if direction == 2:
-            return -north(r - 1, c) if r > 0 else None
-        return -east(r, c - 1) if c > 0 else None
-
-    after = after_by(leaving, 4)
-    node = node_by(n)
-    for r in range(n + 1):
-        for c in range(n):
-            yield (east(r, c), node(r, c), node(r, c + 1), after(r, c + 1, 1), after(r, c, 3), cell(r, c), cell(r - 1, c))
-    for r in range(n):
-        for c in range(n + 1):
-            yield (north(r, c), node(r, c), node(r + 1, c), after(r + 1, c, 0), after(r, c, 2), cell(r, c - 1), cell(r, c))
+    north = Kind(1, 0, lambda r, c: 1 + easts + r * (n + 1) + c, lambda r, c: cell(r, c - 1), cell)
+    east = Kind(0, 1, lambda r, c: 1 + r * n + c, cell, lambda r, c: cell(r - 1, c))
+    return edges_by(n, [north, east])
 
 
 def grid(folder, n):
@@ -104,47 +108,16 @@ def mesh_edges(n):
     to the north, then across."""
     easts, norths = n * (n + 1), n * (n + 1)
 
-    def east(r, c):
-        return 1 + r * n + c
-
-    def north(r, c):
-        return 1 + easts + r * (n + 1) + c
-
-    def across(r, c):
-        return 1 + easts + norths + r * n + c
-
     def below(r, c):
         return 1 + 2 * (r * n + c) if 0 <= r < n and 0 <= c < n else 0
 
     def above(r, c):
         return 2 + 2 * (r * n + c) if 0 <= r < n and 0 <= c < n else 0
 
-    def leaving(r, c, direction):
-        """The signed edge that leaves a node, clockwise from the north, or None."""
-        up, right = (r < n, c < n)
-        if direction == 0:
-            return north(r, c) if up else None
-        if direction == 1:
-            return across(r, c) if up and right else None
-        if direction == 2:
-            return east(r, c) if right else None
-        if direction == 3:
-            return -north(r - 1, c) if r > 0 else None
-        if direction == 4:
-            return -across(r - 1, c - 1) if r > 0 and c > 0 else None
-        return -east(r, c - 1) if c > 0 else None
-
-    after = after_by(leaving, 6)
-    node = node_by(n)
-    for r in range(n + 1):
-        for c in range(n):
-            yield (east(r, c), node(r, c), node(r, c + 1), after(r, c + 1, 2), after(r, c, 5), below(r, c), above(r - 1, c))
-    for r in range(n):
-        for c in range(n + 1):
-            yield (north(r, c), node(r, c), node(r + 1, c), after(r + 1, c, 0), after(r, c, 3), below(r, c - 1), above(r, c))
-    for r in range(n):
-        for c in range(n):
-            yield (across(r, c), node(r, c), node(r + 1, c + 1), after(r + 1, c + 1, 1), after(r, c, 4), above(r, c), below(r, c))
+    north = Kind(1, 0, lambda r, c: 1 + easts + r * (n + 1) + c, lambda r, c: below(r, c - 1), above)
+    across = Kind(1, 1, lambda r, c: 1 + easts + norths + r * n + c, above, below)
+    east = Kind(0, 1, lambda r, c: 1 + r * n + c, below, lambda r, c: above(r - 1, c))
+    return edges_by(n, [north, across, east])
 
 
 def mesh(folder, n):

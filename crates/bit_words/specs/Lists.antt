@@ -1,5 +1,5 @@
--- Lists made by index, and a test of an index.
-use Rattle.std.specs.Prelude.{ℕ, ◌==◌, Bool, false, List, map, Option, None, Some}
+-- Lists made by index, a test of an index, and the first of some options.
+use Rattle.std.specs.Prelude.{ℕ, ◌==◌, Bool, false, List, [], ◌∷◌, map, Option, None, Some}
 use Rattle.std.specs.List.{range_with_len}
 
 -- f 0, f 1 and so on, n of them
@@ -10,3 +10,9 @@ tabulate n f = map f (range_with_len 0 n)
 abbrev pub is_at : Option ℕ → ℕ → Bool
 is_at None j = false
 is_at (Some i) j = i == j
+
+-- the first there is
+unfoldable pub first_some : {X : Type 0} → List (Option X) → Option X
+first_some [] = None
+first_some (None ∷ rest) = first_some rest
+first_some (Some x ∷ rest) = Some x

@@ -21,7 +21,7 @@ mod wrong_entry;
 pub use bit_maker::BitMaker;
 pub use bit_view::BitView;
 pub use in_word::{deepest_fall, first_excess, last_excess, ones_below, place_of_one};
-pub use lists::{all_bits, all_numbers, ones};
+pub use lists::{all_bits, ones, packed_numbers};
 pub use memory::Memory;
 pub use packed_maker::PackedMaker;
 pub use packed_view::PackedView;

@@ -20,7 +20,7 @@ pub fn all_bits(alloc: Global, bits: &[bool]) -> Result<BitMaker, Memory>
 }
 
 /// These numbers, by 32 bits each.
-pub fn all_numbers(alloc: Global, numbers: &[u32]) -> Result<PackedMaker, Memory>
+pub fn packed_numbers(alloc: Global, numbers: &[u32]) -> Result<PackedMaker, Memory>
     requires { length numbers.now ≤ 2147483647 }
     ensures { IfOk result (λ maker. maker ≡ record { width = 32; items = numbers.now }) }
 {

@@ -6,10 +6,10 @@ use Rattle.std.proofs.lemmas.Int.{ints}
 use Rattle.bit_words.specs.Bits.{rank, excess}
 use Rattle.bit_words.proofs.Ranks.{rank-le-rank, rank_more_yes}
 use Rattle.parens.proofs.Balances.{IsBalanced}
-use Rattle.parens.specs.Matching.{is_open, close_of, is_from, is_round, innermost}
+use Rattle.parens.specs.Matching.{is_open, close_of, is_from, is_enclosing, innermost}
 use Rattle.parens.proofs.Arcs.{IsArc, arc-opens}
 use Rattle.parens.proofs.Greatest.{greatest-find, no_falling-find, find-no_falling}
-use Rattle.parens.proofs.Rounds.{round-above, innermost-past, innermost-first, innermost-end, round_inside, not_round_after}
+use Rattle.parens.proofs.Enclosing.{round-above, innermost-past, innermost-first, innermost-end, round_inside, not_round_after}
 use Rattle.code_laws.specs.Orbits.{same_number}
 
 -- the number of the innermost pair round a gap
@@ -21,13 +21,13 @@ module _ (bits : List Bool) (b : IsBalanced bits) where
   pub none_round : (gap : ℕ) → gap ≤ length bits → excess bits gap ≡ pos 0 → number_round bits gap ≡ None
   unfolding innermost
   none_round gap within flat =
-      ap (option_map (rank true bits)) (find-no_falling (is_round bits gap) gap (λ x h. false_from_ne_true _ (λ r.
+      ap (option_map (rank true bits)) (find-no_falling (is_enclosing bits gap) gap (λ x h. false_from_ne_true _ (λ r.
       let a = round-above bits gap x (omega arith) r in
       let v = a.above gap h (omega arith) in
       let low = b.low x (omega arith) in
       omega (arith, ints, v, low, flat))))
 
-  open_of_round : (gap x : ℕ) → is_round bits gap x ≡ true → is_open bits x ≡ true
+  open_of_round : (gap x : ℕ) → is_enclosing bits gap x ≡ true → is_open bits x ≡ true
   open_of_round gap x h = (and_parts (is_open bits x) (is_from gap (close_of bits x)) h).0
 
   -- an opening place has fewer before it than a later place
@@ -39,7 +39,7 @@ module _ (bits : List Bool) (b : IsBalanced bits) where
   unfolding innermost
   apart_some i x l h None e = refl
   apart_some i x l h (Some y) e =
-      let g = greatest-find (is_round bits i) i y e in
+      let g = greatest-find (is_enclosing bits i) i y e in
       let less = fewer y i g.below (omega arith) (open_of_round i y g.passes) in
       let more = rank-le-rank true bits i x l in
       ne_eqb _ _ (λ s. omega (arith, s, less, more))
@@ -47,9 +47,9 @@ module _ (bits : List Bool) (b : IsBalanced bits) where
   module _ (i j : ℕ) (arc : IsArc bits i j) where
     inside_at : (gap : ℕ) → i < gap → gap ≤ j → (o : Option ℕ) → innermost bits gap ≡ o → same_number (number_round bits i) (option_map (rank true bits) o) ≡ false
     unfolding innermost
-    inside_at gap l h None e = absurd (both_ways _ (no_falling-find (is_round bits gap) gap e i l) (round_inside bits i j b arc gap l h))
+    inside_at gap l h None e = absurd (both_ways _ (no_falling-find (is_enclosing bits gap) gap e i l) (round_inside bits i j b arc gap l h))
     inside_at gap l h (Some x) e =
-        let g = greatest-find (is_round bits gap) gap x e in
+        let g = greatest-find (is_enclosing bits gap) gap x e in
         let le : i ≤ x = elim (cases_lt x i) [ inl m ↦ absurd (both_ways _ (g.after i m l) (round_inside bits i j b arc gap l h)) | inr m ↦ m ] in
         apart_some i x le (omega (arith, g.below, arc.within)) (innermost bits i) refl
 
@@ -57,18 +57,18 @@ module _ (bits : List Bool) (b : IsBalanced bits) where
     pub apart_inside : (gap : ℕ) → i < gap → gap ≤ j → same_number (number_round bits i) (number_round bits gap) ≡ false
     apart_inside gap l h = inside_at gap l h (innermost bits gap) refl
 
-    other_some : (gap : ℕ) → is_round bits gap i ≡ false → gap ≤ length bits → (o : Option ℕ) → innermost bits gap ≡ o → same_number (Some (rank true bits i)) (option_map (rank true bits) o) ≡ false
+    other_some : (gap : ℕ) → is_enclosing bits gap i ≡ false → gap ≤ length bits → (o : Option ℕ) → innermost bits gap ≡ o → same_number (Some (rank true bits i)) (option_map (rank true bits) o) ≡ false
     unfolding innermost
     other_some gap out within None e = refl
     other_some gap out within (Some y) e =
-        let g = greatest-find (is_round bits gap) gap y e in
+        let g = greatest-find (is_enclosing bits gap) gap y e in
         let opens = open_of_round gap y g.passes in
         ne_eqb _ _ (λ s.
         elim (cases_lt y i) [
           | inl m ↦ let v = fewer y i m (omega (arith, arc.order, arc.within)) opens in omega (arith, s, v)
           | inr m ↦ elim (cases_lt i y) [
             | inl n ↦ let v = fewer i y n (omega (arith, g.below)) (arc-opens bits i j arc) in omega (arith, s, v)
-            | inr n ↦ let e : i ≡ y = omega arith in both_ways _ (subst (λ z. is_round bits gap z ≡ false) e out) g.passes
+            | inr n ↦ let e : i ≡ y = omega arith in both_ways _ (subst (λ z. is_enclosing bits gap z ≡ false) e out) g.passes
           ]
         ])
 
@@ -80,7 +80,7 @@ module _ (bits : List Bool) (b : IsBalanced bits) where
     unfolding innermost
     before_at gap l None e = refl
     before_at gap l (Some y) e =
-        let g = greatest-find (is_round bits gap) gap y e in
+        let g = greatest-find (is_enclosing bits gap) gap y e in
         let v = fewer y i (omega (arith, g.below)) (omega (arith, arc.order, arc.within)) (open_of_round gap y g.passes) in
         ne_eqb _ _ (λ s. omega (arith, s, v))
 

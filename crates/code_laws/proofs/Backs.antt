@@ -1,9 +1,9 @@
 -- A step back undoes a step, and a step undoes a step back.
 use Rattle.std.proofs.Common.{◌≡◌, ◌≢◌, ℕ, ◌+◌, ◌-◌, ◌<◌, inl, inr, Bool, length, refl, ap, sym, ◌∙◌, arith, subst}
 use Rattle.std.proofs.lemmas.Bool.{cases_eq, eq-eqb, ne_eqb}
+use Rattle.rank_select.proofs.Selects.{cases_kind}
 use Rattle.code_laws.specs.Code.{Code, is_tree, mate, over, after, before, step, step_back, component_of, start_of, end_of}
 use Rattle.code_laws.specs.Laws.{StepLaws}
-use Rattle.rank_select.proofs.Selects.{cases_kind}
 use Rattle.code_laws.proofs.Places.{over_mate, over_other}
 use Rattle.code_laws.proofs.Steps.{IsIn, after_next, after_last}
 use Rattle.code_laws.proofs.Sound.{SoundParts, in_one, is_component}

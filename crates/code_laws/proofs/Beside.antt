@@ -5,7 +5,7 @@ use Rattle.std.specs.List.{range_with_len}
 use Rattle.std.proofs.lemmas.Bool.{and_parts, and_from, eqb-true, eq-eqb, both_ways}
 use Rattle.bit_words.proofs.Finds.{IsLeast, least-find, none-find}
 use Rattle.code_laws.specs.Code.{Code, step, component_of, next, turn}
-use Rattle.code_laws.specs.Numbers.{node_of, ring_of, node_or_root, shell_or_outer, pair_round}
+use Rattle.code_laws.specs.Numbers.{node_of, ring_of, node_or_root, shell_or_outer, enclosing_pair}
 use Rattle.code_laws.specs.Orbits.{same_number, is_beside}
 use Rattle.code_laws.proofs.Walks.{Goes}
 use Rattle.code_laws.proofs.Steps.{same_number-self, same_number-true, goes}
@@ -14,15 +14,15 @@ use Rattle.code_laws.proofs.Sound.{SoundParts, is_well}
 -- two positions with one component and one number of a kind
 pub record AreBeside (c : Code) (kind : Bool) (p q : ℕ) : Type 0 where
   pub component : component_of c q ≡ component_of c p
-  pub number : pair_round c kind q ≡ pair_round c kind p
+  pub number : enclosing_pair c kind q ≡ enclosing_pair c kind p
 
 pub beside-from : (c : Code) (kind : Bool) (p q : ℕ) → is_beside c kind p q ≡ true → AreBeside c kind p q
 beside-from c kind p q h =
-    let parts = and_parts (component_of c p == component_of c q) (same_number (pair_round c kind p) (pair_round c kind q)) h in
+    let parts = and_parts (component_of c p == component_of c q) (same_number (enclosing_pair c kind p) (enclosing_pair c kind q)) h in
     record { component = sym (eqb-true _ _ parts.0); number = sym (same_number-true _ _ parts.1) }
 
 pub beside-to : (c : Code) (kind : Bool) (p q : ℕ) → AreBeside c kind p q → is_beside c kind p q ≡ true
-beside-to c kind p q b = and_from _ _ (eq-eqb _ _ (sym b.component)) (subst (λ o. same_number (pair_round c kind p) o ≡ true) (sym b.number) (same_number-self (pair_round c kind p)))
+beside-to c kind p q b = and_from _ _ (eq-eqb _ _ (sym b.component)) (subst (λ o. same_number (enclosing_pair c kind p) o ≡ true) (sym b.number) (same_number-self (enclosing_pair c kind p)))
 
 pub beside-self : (c : Code) (kind : Bool) (p : ℕ) → is_beside c kind p p ≡ true
 beside-self c kind p = beside-to c kind p p (record { component = refl; number = refl })
@@ -54,14 +54,14 @@ step_beside c s kind p l =
   where
     not_beside : (c : Code) (kind : Bool) (p f y : ℕ) → AreBeside c kind p f → is_beside c kind p y ≡ false → is_beside c kind f y ≡ false
     not_beside c kind p f y b h =
-        subst (λ m. ((m == component_of c y) && same_number (pair_round c kind f) (pair_round c kind y)) ≡ false) (sym b.component)
-        (subst (λ o. ((component_of c p == component_of c y) && same_number o (pair_round c kind y)) ≡ false) (sym b.number) h)
+        subst (λ m. ((m == component_of c y) && same_number (enclosing_pair c kind f) (enclosing_pair c kind y)) ≡ false) (sym b.component)
+        (subst (λ o. ((component_of c p == component_of c y) && same_number o (enclosing_pair c kind y)) ≡ false) (sym b.number) h)
 
 pub next_ring : (c : Code) → SoundParts c → (p : ℕ) → p < length c.a → (next c p < length c.a) × (ring_of c (next c p) ≡ ring_of c p)
 unfolding ring_of
 next_ring c s p l =
     let b = step_beside c s false p l in
-    (b.0, shells (pair_round c false p) (pair_round c false (next c p)) b.1.number b.1.component)
+    (b.0, shells (enclosing_pair c false p) (enclosing_pair c false (next c p)) b.1.number b.1.component)
   where
     shells : (o r : Option ℕ) → r ≡ o → component_of c (next c p) ≡ component_of c p → shell_or_outer c (next c p) r ≡ shell_or_outer c p o
     shells o r e m = subst (λ x. shell_or_outer c (next c p) x ≡ shell_or_outer c p o) (sym e) (at o m)
@@ -74,7 +74,7 @@ pub turn_node : (c : Code) → SoundParts c → (p : ℕ) → p < length c.a →
 unfolding node_of
 turn_node c s p l =
     let b = step_beside c s true p l in
-    (b.0, nodes (pair_round c true p) (pair_round c true (turn c p)) b.1.number b.1.component)
+    (b.0, nodes (enclosing_pair c true p) (enclosing_pair c true (turn c p)) b.1.number b.1.component)
   where
     nodes : (o r : Option ℕ) → r ≡ o → component_of c (turn c p) ≡ component_of c p → node_or_root c (turn c p) r ≡ node_or_root c p o
     nodes o r e m = subst (λ x. node_or_root c (turn c p) x ≡ node_or_root c p o) (sym e) (at o m)

@@ -8,11 +8,11 @@ use Rattle.bit_words.specs.Lists.{is_at}
 use Rattle.bit_words.specs.Bits.{rank, excess, same}
 use Rattle.bit_words.proofs.Ranks.{rank_both, rank_more_yes, rank_more_no}
 use Rattle.bit_words.proofs.Finds.{find-least, least-find}
-use Rattle.parens.specs.Matching.{is_open}
 use Rattle.rank_select.proofs.Selects.{cases_kind, same-self, same-other}
+use Rattle.parens.specs.Matching.{is_open}
 use Rattle.parens.proofs.Arcs.{IsArc, arc-opens, arc-closes}
 use Rattle.code_laws.specs.Code.{Code, positions, is_tree, is_first, parens, place, component_of, component_count, start_of, end_of}
-use Rattle.code_laws.specs.Numbers.{node_of, ring_of, pair_round, is_ring}
+use Rattle.code_laws.specs.Numbers.{node_of, ring_of, enclosing_pair, is_ring}
 use Rattle.code_laws.specs.Counts.{positions_in, begins_node, begins_ring, nodes_in, rings_in, edges_in, edges_of_kind}
 use Rattle.code_laws.specs.Orbits.{is_beside}
 use Rattle.code_laws.specs.declared.ring_number.RingNumber.{RingNumber}
@@ -74,7 +74,7 @@ module _ (c : Code) (s : SoundParts c) (kind : Bool) where
   unfolding opens_at
   opens-is p is = rw (first_at c kind p (place c kind p) is refl) (rw is (rw (same-self kind) refl))
 
-  beside-of : (p q : ℕ) → component_of c q ≡ component_of c p → pair_round c kind q ≡ pair_round c kind p → is_beside c kind p q ≡ true
+  beside-of : (p q : ℕ) → component_of c q ≡ component_of c p → enclosing_pair c kind q ≡ enclosing_pair c kind p → is_beside c kind p q ≡ true
   beside-of p q m e = beside-to c kind p q (record { component = m; number = e })
 
   after_pair : (p m : ℕ) → IsIn c p m → p + 1 < end_of c m → (is : is_tree c p ≡ kind) → HasMate c kind p m → leads c kind (p + 1) ≡ is_open (parens c kind) (place c kind p)
@@ -91,7 +91,7 @@ module _ (c : Code) (s : SoundParts c) (kind : Bool) where
   after_pair p m i inside is (Closes q n arc k order from) =
       let closes = arc-closes (parens c kind) n (place c kind p) arc in
       let next = place_next c kind p (omega (arith, i.to, i.within)) is in
-      let past : pair_round c kind (p + 1) ≡ pair_round c kind q =
+      let past : enclosing_pair c kind (p + 1) ≡ enclosing_pair c kind q =
       at_place c kind (p + 1) (place c kind p + 1) next
       ∙ number_past (parens c kind) (whole c s kind) n (place c kind p) arc
       ∙ sym (at_place c kind q n k.at_place) in
@@ -104,7 +104,7 @@ module _ (c : Code) (s : SoundParts c) (kind : Bool) where
       elim (cases_kind kind (is_tree c p)) [
         | inl is ↦ after_pair p m i inside is (mates c s kind p m i is) ∙ sym (opens-is p is)
         | inr other ↦
-            let same : pair_round c kind (p + 1) ≡ pair_round c kind p = at_place c kind (p + 1) (place c kind p) (place_other c kind p (omega (arith, i.to, i.within)) other) ∙ sym (pair-number c kind p) in
+            let same : enclosing_pair c kind (p + 1) ≡ enclosing_pair c kind p = at_place c kind (p + 1) (place c kind p) (place_other c kind p (omega (arith, i.to, i.within)) other) ∙ sym (pair-number c kind p) in
             let p_is = is_component c s (p + 1) m i.count (omega (arith, i.from)) inside in
             leads-no (p + 1) p (omega arith) (beside-of (p + 1) p (i.is ∙ sym p_is) (sym same)) ∙ sym (opens-no p other)
       ]

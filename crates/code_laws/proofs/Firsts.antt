@@ -6,7 +6,7 @@ use Rattle.bit_words.proofs.Finds.{find-least}
 use Rattle.parens.specs.Matching.{is_open}
 use Rattle.parens.proofs.Arcs.{arc-closes}
 use Rattle.code_laws.specs.Code.{Code, is_tree, is_first, parens, place, component_count, start_of, end_of}
-use Rattle.code_laws.specs.Numbers.{edge_of, node_of, ring_of, node_or_root, shell_or_outer, is_shell, pair_round, tree_edges, first_of_edge, first_of_node, first_of_shell}
+use Rattle.code_laws.specs.Numbers.{edge_of, node_of, ring_of, node_or_root, shell_or_outer, is_shell, enclosing_pair, tree_edges, first_of_edge, first_of_node, first_of_shell}
 use Rattle.code_laws.specs.Orbits.{same_number}
 use Rattle.code_laws.proofs.Apart.{apart_before, number_first}
 use Rattle.code_laws.proofs.Places.{place_before, place_next}
@@ -14,11 +14,11 @@ use Rattle.code_laws.proofs.Steps.{IsIn, HasMate, Opens, Closes, pair-number, no
 use Rattle.code_laws.proofs.Sound.{SoundParts, is_well, rises, whole, flat, mates, in_one, is_component, start_within, rises_to}
 use Rattle.code_laws.proofs.Edges.{first_edge, edge_there, edge_of_kind, tree_below, other_from, open_place}
 
-node_at : (c : Code) (p : ℕ) (o : Option ℕ) → pair_round c true p ≡ o → node_of c p ≡ node_or_root c p o
+node_at : (c : Code) (p : ℕ) (o : Option ℕ) → enclosing_pair c true p ≡ o → node_of c p ≡ node_or_root c p o
 unfolding node_of
 node_at c p o e = ap (node_or_root c p) e
 
-ring_at : (c : Code) (p : ℕ) (o : Option ℕ) → pair_round c false p ≡ o → ring_of c p ≡ shell_or_outer c p o
+ring_at : (c : Code) (p : ℕ) (o : Option ℕ) → enclosing_pair c false p ≡ o → ring_of c p ≡ shell_or_outer c p o
 unfolding ring_of
 ring_at c p o e = ap (shell_or_outer c p) e
 
@@ -26,7 +26,7 @@ some_same : (x y : ℕ) → Some x ≡ Some y → x ≡ y
 some_same x y e = cc
 
 module _ (c : Code) (s : SoundParts c) where
-  no_root : (q j : ℕ) → j < component_count c → q < start_of c j → q < length c.a → (o : Option ℕ) → pair_round c true q ≡ o → node_of c q ≢ j
+  no_root : (q j : ℕ) → j < component_count c → q < start_of c j → q < length c.a → (o : Option ℕ) → enclosing_pair c true q ≡ o → node_of c q ≢ j
   no_root q j l b m None e n =
       let i = in_one c s q m in
       let v : i.0 ≡ j = sym i.1.is ∙ sym (node_at c q None e) ∙ n in
@@ -40,19 +40,19 @@ module _ (c : Code) (s : SoundParts c) where
       let r = rises_to c s.laid (j + 1) (component_count c) (omega arith) (omega arith) in
       let up : start_of c j < end_of c j = rises c s.laid j l in
       let inside : end_of c j ≤ length c.a = start_within c s.laid (j + 1) (omega arith) in
-      let none : pair_round c true (start_of c j) ≡ None = none_at c (is_well c s) true (start_of c j) (omega (arith, up, inside)) (flat c s true j (omega arith)) in
+      let none : enclosing_pair c true (start_of c j) ≡ None = none_at c (is_well c s) true (start_of c j) (omega (arith, up, inside)) (flat c s true j (omega arith)) in
       let here : node_of c (start_of c j) ≡ j = node_at c (start_of c j) None none ∙ is_component c s (start_of c j) j l (omega arith) up in
       find-least (λ p. node_of c p == j) 0 (length c.a) (start_of c j) (record {
         from = omega arith;
         within = omega (arith, up, inside);
         passes = eq-eqb _ _ here;
-        before = λ q a b. false_from_ne_true _ (λ t. no_root q j l b (omega (arith, b, up, inside)) (pair_round c true q) refl (eqb-true _ _ t));
+        before = λ q a b. false_from_ne_true _ (λ t. no_root q j l b (omega (arith, b, up, inside)) (enclosing_pair c true q) refl (eqb-true _ _ t));
       })
 
   -- the pair of a first position of a kind: at the next position it is the one round the gap, and at none before
   pub first_gap : (kind : Bool) (p m : ℕ) → IsIn c p m → is_tree c p ≡ kind → HasMate c kind p m → is_open (parens c kind) (place c kind p) ≡ true
-      → (p + 1 < length c.a) × (pair_round c kind (p + 1) ≡ Some (rank true (parens c kind) (place c kind p)))
-      × ((q : ℕ) → q ≤ p → pair_round c kind q ≢ Some (rank true (parens c kind) (place c kind p)))
+      → (p + 1 < length c.a) × (enclosing_pair c kind (p + 1) ≡ Some (rank true (parens c kind) (place c kind p)))
+      × ((q : ℕ) → q ≤ p → enclosing_pair c kind q ≢ Some (rank true (parens c kind) (place c kind p)))
   first_gap kind p m i is (Opens q j arc k order inside) opens =
       let p_in : p < length c.a = omega (arith, i.to, i.within) in
       let n = rank true (parens c kind) (place c kind p) in (
@@ -60,7 +60,7 @@ module _ (c : Code) (s : SoundParts c) where
         at_place c kind (p + 1) (place c kind p + 1) (place_next c kind p p_in is) ∙ number_first (parens c kind) (whole c s kind) (place c kind p) j arc,
         λ y h e.
             let a = apart_before (parens c kind) (whole c s kind) (place c kind p) j arc (place c kind y) (place_before c kind y p h) in
-            let x : same_number (Some n) (pair_round c kind y) ≡ false = rw (pair-number c kind y) a in
+            let x : same_number (Some n) (enclosing_pair c kind y) ≡ false = rw (pair-number c kind y) a in
             both_ways _ x (rw e (same_number-self (Some n))),
       )
   first_gap kind p m i is (Closes q n arc k order from) opens = absurd (both_ways _ (arc-closes (parens c kind) n (place c kind p) arc) opens)
@@ -73,7 +73,7 @@ module _ (c : Code) (s : SoundParts c) where
       let same : t.0 ≡ p = some_same t.0 p (sym f ∙ h) in
       subst (λ x. (x < length c.a) × (is_first c x ≡ true) × (edge_of c x ≡ e)) same (t.1, t.2, t.3)
 
-  not_node : (q e : ℕ) → q < length c.a → pair_round c true q ≢ Some e → (o : Option ℕ) → pair_round c true q ≡ o → node_of c q ≢ component_count c + e
+  not_node : (q e : ℕ) → q < length c.a → enclosing_pair c true q ≢ Some e → (o : Option ℕ) → enclosing_pair c true q ≡ o → node_of c q ≢ component_count c + e
   not_node q e l other None h n = let i = in_one c s q l in let v : i.0 ≡ component_count c + e = sym i.1.is ∙ sym (node_at c q None h) ∙ n in omega (arith, v, i.1.count)
   not_node q e l other (Some x) h n =
       let v : component_count c + x ≡ component_count c + e = sym (node_at c q (Some x) h) ∙ n in
@@ -94,10 +94,10 @@ module _ (c : Code) (s : SoundParts c) where
         from = omega arith;
         within = omega (arith, g.0);
         passes = eq-eqb _ _ here;
-        before = λ q a b. false_from_ne_true _ (λ t. not_node q e (omega (arith, b, f.0)) (λ x. g.2 q (omega (arith, b)) (x ∙ ap Some (sym number))) (pair_round c true q) refl (eqb-true _ _ t));
+        before = λ q a b. false_from_ne_true _ (λ t. not_node q e (omega (arith, b, f.0)) (λ x. g.2 q (omega (arith, b)) (x ∙ ap Some (sym number))) (enclosing_pair c true q) refl (eqb-true _ _ t));
       })
 
-  not_shell : (q x : ℕ) → pair_round c false q ≢ Some x → (o : Option ℕ) → pair_round c false q ≡ o → is_shell x (ring_of c q) ≡ false
+  not_shell : (q x : ℕ) → enclosing_pair c false q ≢ Some x → (o : Option ℕ) → enclosing_pair c false q ≡ o → is_shell x (ring_of c q) ≡ false
   not_shell q x other None h = rw (ring_at c q None h) refl
   not_shell q x other (Some y) h = rw (ring_at c q (Some y) h) (ne_eqb y x (λ e. other (h ∙ ap Some e)))
 
@@ -115,5 +115,5 @@ module _ (c : Code) (s : SoundParts c) where
         from = omega arith;
         within = omega (arith, g.0);
         passes = here;
-        before = λ q a b. not_shell q x (λ y. g.2 q (omega (arith, b)) (y ∙ ap Some (sym number))) (pair_round c false q) refl;
+        before = λ q a b. not_shell q x (λ y. g.2 q (omega (arith, b)) (y ∙ ap Some (sym number))) (enclosing_pair c false q) refl;
       })

@@ -4,11 +4,11 @@ use Rattle.std.specs.List.{range_with_len}
 use Rattle.std.proofs.Common.{◌≡◌, ℕ, zero, suc, ◌+◌, ◌-◌, ◌<◌, ◌≤◌, inl, inr, Bool, true, false, List, [], ◌∷◌, length, refl, ap, sym, ◌∙◌, arith, subst, Option, Some, None}
 use Rattle.std.proofs.lemmas.Bool.{cases_lt, cases_Bool, cases_order, and_parts, both_ways, leb-true}
 use Rattle.bit_words.specs.Bits.{rank}
-use Rattle.parens.specs.Matching.{is_open, close_of, is_from, is_round, innermost}
 use Rattle.rank_select.proofs.Selects.{select-placed}
+use Rattle.parens.specs.Matching.{is_open, close_of, is_from, is_enclosing, innermost}
 use Rattle.parens.proofs.Arcs.{IsArc, arc-close, close-arc, arc-opens, arc-closes}
 use Rattle.code_laws.specs.Code.{Code, is_tree, parens, place, mate, component_of, end_of}
-use Rattle.code_laws.specs.Numbers.{node_of, ring_of, node_or_root, shell_or_outer, pair_round}
+use Rattle.code_laws.specs.Numbers.{node_of, ring_of, node_or_root, shell_or_outer, enclosing_pair}
 use Rattle.code_laws.specs.Orbits.{is_beside, orbit, from_on}
 use Rattle.code_laws.specs.declared.ring_number.RingNumber.TheVariants.{Outer, Shell}
 use Rattle.parens.proofs.Greatest.{greatest-find}
@@ -39,7 +39,7 @@ module _ (c : Code) (s : SoundParts c) (kind : Bool) where
   round_of p x l None e n = cc
   round_of p x l (Some i) e n =
       let bits = parens c kind in
-      let g = greatest-find (is_round bits (place c kind p)) (place c kind p) i e in
+      let g = greatest-find (is_enclosing bits (place c kind p)) (place c kind p) i e in
       let parts = and_parts (is_open bits i) (is_from (place c kind p) (close_of bits i)) g.passes in
       let close = from_some (place c kind p) (close_of bits i) parts.1 in
       let p_place = places_within c s.laid kind p (omega arith) in
@@ -81,8 +81,8 @@ module _ (c : Code) (s : SoundParts c) (kind : Bool) where
       mated q m i is x j e arc p low l (Closes r k a mate order from) =
           absurd (both_ways _ (arc-closes (parens c kind) k (place c kind q) a) (subst (λ y. is_open (parens c kind) y ≡ true) (sym e) (arc-opens (parens c kind) x j arc)))
 
-  pub round_at : (p x : ℕ) → p < length c.a → pair_round c kind p ≡ Some x → (q : ℕ) × IsRoundAt c kind p x q
-  unfolding pair_round
+  pub round_at : (p x : ℕ) → p < length c.a → enclosing_pair c kind p ≡ Some x → (q : ℕ) × IsRoundAt c kind p x q
+  unfolding enclosing_pair
   round_at p x l e = round_of p x l (innermost (parens c kind) (place c kind p)) refl e
 
   -- one opening place has so many before it
@@ -97,7 +97,7 @@ module _ (c : Code) (s : SoundParts c) (kind : Bool) where
       ]
 
   -- gaps with one pair round them are in one component
-  pub one_component : (p q x : ℕ) → p < length c.a → q < length c.a → pair_round c kind p ≡ Some x → pair_round c kind q ≡ Some x → component_of c q ≡ component_of c p
+  pub one_component : (p q x : ℕ) → p < length c.a → q < length c.a → enclosing_pair c kind p ≡ Some x → enclosing_pair c kind q ≡ Some x → component_of c q ≡ component_of c p
   one_component p q x l m e f =
       let a = round_at p x l e in
       let b = round_at q x m f in
@@ -108,7 +108,7 @@ module _ (c : Code) (s : SoundParts c) (kind : Bool) where
       sym b.1.component ∙ ap (component_of c) (sym same) ∙ a.1.component
 
   -- such a number is below the number of pairs
-  pub round_below : (p x : ℕ) → p < length c.a → pair_round c kind p ≡ Some x → x < rank true (parens c kind) (length (parens c kind))
+  pub round_below : (p x : ℕ) → p < length c.a → enclosing_pair c kind p ≡ Some x → x < rank true (parens c kind) (length (parens c kind))
   round_below p x l e =
       let a = round_at p x l e in
       let w = place_in c s kind a.0 a.1.within a.1.kind_of in
@@ -122,18 +122,18 @@ outer-same : (i j : ℕ) → Outer i ≡ Outer j → i ≡ j
 outer-same i j e = cc
 
 module _ (c : Code) (s : SoundParts c) (p q : ℕ) (l : p < length c.a) (m : q < length c.a) where
-  rings-beside : (o r : Option ℕ) → pair_round c false p ≡ o → pair_round c false q ≡ r → shell_or_outer c p o ≡ shell_or_outer c q r → AreBeside c false p q
+  rings-beside : (o r : Option ℕ) → enclosing_pair c false p ≡ o → enclosing_pair c false q ≡ r → shell_or_outer c p o ≡ shell_or_outer c q r → AreBeside c false p q
   rings-beside None None e f h = record { component = sym (outer-same _ _ h); number = f ∙ sym e }
   rings-beside None (Some j) e f h = cc
   rings-beside (Some i) None e f h = cc
   rings-beside (Some i) (Some j) e f h =
       let same = shell-same i j h in
-      let there : pair_round c false q ≡ Some i = f ∙ ap Some (sym same) in
+      let there : enclosing_pair c false q ≡ Some i = f ∙ ap Some (sym same) in
       record { component = one_component c s false p q i l m e there; number = there ∙ sym e }
 
   pub ring-beside : ring_of c p ≡ ring_of c q → AreBeside c false p q
   unfolding ring_of
-  ring-beside h = rings-beside (pair_round c false p) (pair_round c false q) refl refl h
+  ring-beside h = rings-beside (enclosing_pair c false p) (enclosing_pair c false q) refl refl h
 
   beside-rings : (o r : Option ℕ) → r ≡ o → component_of c q ≡ component_of c p → shell_or_outer c p o ≡ shell_or_outer c q r
   beside-rings o r e m = subst (λ x. shell_or_outer c p o ≡ shell_or_outer c q x) (sym e) (at o)
@@ -144,20 +144,20 @@ module _ (c : Code) (s : SoundParts c) (p q : ℕ) (l : p < length c.a) (m : q <
 
   pub beside-ring : AreBeside c false p q → ring_of c p ≡ ring_of c q
   unfolding ring_of
-  beside-ring b = beside-rings (pair_round c false p) (pair_round c false q) b.number b.component
+  beside-ring b = beside-rings (enclosing_pair c false p) (enclosing_pair c false q) b.number b.component
 
-  nodes-beside : (o r : Option ℕ) → pair_round c true p ≡ o → pair_round c true q ≡ r → node_or_root c p o ≡ node_or_root c q r → AreBeside c true p q
+  nodes-beside : (o r : Option ℕ) → enclosing_pair c true p ≡ o → enclosing_pair c true q ≡ r → node_or_root c p o ≡ node_or_root c q r → AreBeside c true p q
   nodes-beside None None e f h = record { component = sym h; number = f ∙ sym e }
   nodes-beside None (Some j) e f h = let i = in_one c s p l in absurd (omega (arith, h, i.1.count, i.1.is))
   nodes-beside (Some i) None e f h = let k = in_one c s q m in absurd (omega (arith, h, k.1.count, k.1.is))
   nodes-beside (Some i) (Some j) e f h =
       let same : j ≡ i = omega (arith, h) in
-      let there : pair_round c true q ≡ Some i = f ∙ ap Some same in
+      let there : enclosing_pair c true q ≡ Some i = f ∙ ap Some same in
       record { component = one_component c s true p q i l m e there; number = there ∙ sym e }
 
   pub node-beside : node_of c p ≡ node_of c q → AreBeside c true p q
   unfolding node_of
-  node-beside h = nodes-beside (pair_round c true p) (pair_round c true q) refl refl h
+  node-beside h = nodes-beside (enclosing_pair c true p) (enclosing_pair c true q) refl refl h
 
   beside-nodes : (o r : Option ℕ) → r ≡ o → component_of c q ≡ component_of c p → node_or_root c p o ≡ node_or_root c q r
   beside-nodes o r e m = subst (λ x. node_or_root c p o ≡ node_or_root c q x) (sym e) (at o)
@@ -168,7 +168,7 @@ module _ (c : Code) (s : SoundParts c) (p q : ℕ) (l : p < length c.a) (m : q <
 
   pub beside-node : AreBeside c true p q → node_of c p ≡ node_of c q
   unfolding node_of
-  beside-node b = beside-nodes (pair_round c true p) (pair_round c true q) b.number b.component
+  beside-node b = beside-nodes (enclosing_pair c true p) (enclosing_pair c true q) b.number b.component
 
 -- what is in a filtered list
 in-filter : (test : ℕ → Bool) (xs : List ℕ) (x : ℕ) → Contains xs x → test x ≡ true → Contains (filter test xs) x

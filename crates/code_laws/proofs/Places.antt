@@ -3,9 +3,9 @@ use Rattle.std.specs.Prelude.{not, unwrap_or}
 use Rattle.std.proofs.Common.{◌≡◌, ℕ, ◌+◌, ◌<◌, ◌≤◌, Bool, false, length, refl, ap, sym, arith, subst}
 use Rattle.bit_words.specs.Bits.{rank, select}
 use Rattle.bit_words.proofs.Ranks.{rank-le-rank, rank_more_yes, rank_more_no}
+use Rattle.rank_select.proofs.Selects.{same-self, same-other, select-placed}
 use Rattle.parens.specs.Matching.{mate_of}
 use Rattle.code_laws.specs.Code.{Code, is_tree, parens, place, mate, over}
-use Rattle.rank_select.proofs.Selects.{same-self, same-other, select-placed}
 
 -- a position and its mate
 pub record IsMate (c : Code) (kind : Bool) (p i j q : ℕ) : Type 0 where

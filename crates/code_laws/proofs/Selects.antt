@@ -6,10 +6,10 @@ use Rattle.std.proofs.lemmas.Bool.{cases_lt, cases_Bool, both_ways, eqb-true, eq
 use Rattle.bit_words.specs.Bits.{rank, select}
 use Rattle.bit_words.proofs.Ranks.{rank_both}
 use Rattle.bit_words.proofs.Finds.{find-none, least-find}
+use Rattle.rank_select.proofs.Selects.{select-placed, selected_none}
 use Rattle.parens.specs.Matching.{is_open}
 use Rattle.code_laws.specs.Code.{Code, is_tree, is_first, parens, place, mate, component_count, start_of}
-use Rattle.code_laws.specs.Numbers.{edge_of, node_of, ring_of, node_or_root, shell_or_outer, is_shell, pair_round, tree_edges, first_of_edge, first_of_node, first_of_shell, opening_position, one_on, edge_count, node_count, shell_count}
-use Rattle.rank_select.proofs.Selects.{select-placed, selected_none}
+use Rattle.code_laws.specs.Numbers.{edge_of, node_of, ring_of, node_or_root, shell_or_outer, is_shell, enclosing_pair, tree_edges, first_of_edge, first_of_node, first_of_shell, opening_position, one_on, edge_count, node_count, shell_count}
 use Rattle.code_laws.proofs.Sound.{SoundParts, whole, all_places, in_one}
 use Rattle.code_laws.proofs.Mates.{first_at}
 use Rattle.code_laws.proofs.Edges.{half, closed, first_edge, before_kind, edge_of_kind, edge_within, laws, second}
@@ -75,14 +75,14 @@ module _ (c : Code) (s : SoundParts c) where
         | inr g ↦ rw (le-ltb e (tree_edges c) g) (let same : tree_edges c + (e - tree_edges c) ≡ e = omega (arith, g) in subst (λ y. first_of_edge c y ≡ opening_position c false (e - tree_edges c)) same (other_edge (e - tree_edges c)))
       ]
 
-  node_below : (p : ℕ) → p < length c.a → (o : Option ℕ) → pair_round c true p ≡ o → node_or_root c p o < component_count c + tree_edges c
+  node_below : (p : ℕ) → p < length c.a → (o : Option ℕ) → enclosing_pair c true p ≡ o → node_or_root c p o < component_count c + tree_edges c
   node_below p l None e = let i = in_one c s p l in omega (arith, i.1.is, i.1.count)
   node_below p l (Some x) e = let b = round_below c s true p x l e in let h = pairs true in omega (arith, b, h)
 
   -- each node is a root, or the one that a tree edge first reaches
   pub node_within : (p : ℕ) → p < length c.a → node_of c p < component_count c + tree_edges c
   unfolding node_of
-  node_within p l = node_below p l (pair_round c true p) refl
+  node_within p l = node_below p l (enclosing_pair c true p) refl
 
   no_node : (n : ℕ) → component_count c + tree_edges c ≤ n → first_of_node c n ≡ None
   unfolding first_of_node
@@ -104,13 +104,13 @@ module _ (c : Code) (s : SoundParts c) where
         | inr g ↦ rw (le-ltb n (component_count c) g) (let same : component_count c + (n - component_count c) ≡ n = omega (arith, g) in subst (λ y. first_of_node c y ≡ one_on (opening_position c true (n - component_count c))) same (reached (n - component_count c)))
       ]
 
-  shell_below : (p x : ℕ) → p < length c.a → (o : Option ℕ) → pair_round c false p ≡ o → length c.dual / 2 ≤ x → is_shell x (shell_or_outer c p o) ≡ false
+  shell_below : (p x : ℕ) → p < length c.a → (o : Option ℕ) → enclosing_pair c false p ≡ o → length c.dual / 2 ≤ x → is_shell x (shell_or_outer c p o) ≡ false
   shell_below p x l None e g = refl
   shell_below p x l (Some y) e g = ne_eqb y x (λ t. let b = round_below c s false p y l e in let h = pairs false in omega (arith, b, h, t, g))
 
   no_shell : (x : ℕ) → length c.dual / 2 ≤ x → first_of_shell c x ≡ None
   unfolding first_of_shell ring_of
-  no_shell x g = find-none (λ p. is_shell x (ring_of c p)) 0 (length c.a) (λ p a b. shell_below p x (omega arith) (pair_round c false p) refl g)
+  no_shell x g = find-none (λ p. is_shell x (ring_of c p)) 0 (length c.a) (λ p a b. shell_below p x (omega arith) (enclosing_pair c false p) refl g)
 
   pub shell_by_select : (x : ℕ) → first_of_shell c x ≡ one_on (opening_position c false x)
   shell_by_select x =

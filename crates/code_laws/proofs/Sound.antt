@@ -5,13 +5,14 @@ use Rattle.std.specs.List.{range_with_len}
 use Rattle.std.proofs.lemmas.Bool.{cases_lt, cases_Bool, and_parts, eqb-true, eq-eqb, ne_eqb, ltb-true, ltb-false, le-leb, lt-leb, not-false}
 use Rattle.std.proofs.lemmas.Int.{ints}
 use Rattle.bit_words.specs.Bits.{rank, excess}
+use Rattle.bit_words.specs.Lists.{first_some}
 use Rattle.bit_words.proofs.Ranks.{rank-zero, rank_both}
 use Rattle.bit_words.proofs.Finds.{none-find}
 use Rattle.parens.proofs.Balances.{IsBalanced}
 use Rattle.parens.specs.Matching.{is_open, close_of, open_of, mate_of, closes_more, or_end, balance_fault}
 use Rattle.parens.proofs.Arcs.{arc-close, some_close, excess-zero}
 use Rattle.code_laws.specs.Code.{Code, is_tree, parens, place, component_of, component_count, start_of, end_of}
-use Rattle.code_laws.specs.SeqFault.{is_start, starts_fault, is_balanced_in, balance_fault_of, ones_fault, first_some, seq_fault, is_sound}
+use Rattle.code_laws.specs.SeqFault.{is_start, starts_fault, is_balanced_in, balance_fault_of, ones_fault, seq_fault, is_sound}
 use Rattle.code_laws.specs.Orbits.{beside, orbit}
 use Rattle.code_laws.specs.declared.seq_fault.SeqFault.TheVariants.{Starts, Ones, Tree, Dual}
 use Rattle.code_laws.proofs.Places.{mate_placed, place_before, place_next, place_after}

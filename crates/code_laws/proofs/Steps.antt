@@ -8,7 +8,7 @@ use Rattle.rank_select.proofs.Selects.{cases_kind}
 use Rattle.parens.proofs.Balances.{IsBalanced}
 use Rattle.parens.proofs.Arcs.{IsArc}
 use Rattle.code_laws.specs.Code.{Code, is_tree, parens, place, mate, after, step, component_of, component_count, start_of, end_of}
-use Rattle.code_laws.specs.Numbers.{pair_round}
+use Rattle.code_laws.specs.Numbers.{enclosing_pair}
 use Rattle.code_laws.specs.Orbits.{same_number, is_beside, beside, orbit}
 use Rattle.code_laws.proofs.Apart.{number_round, none_round, apart_inside, apart_after, apart_before, number_past, number_first, number_end}
 use Rattle.code_laws.proofs.Places.{IsMate, place_before, place_next, place_other, place_after, over_other, over_mate}
@@ -49,15 +49,15 @@ same_number-true None (Some j) h = cc
 same_number-true (Some i) None h = cc
 same_number-true (Some i) (Some j) h = ap Some (eqb-true i j h)
 
-pub pair-number : (c : Code) (kind : Bool) (q : ℕ) → pair_round c kind q ≡ number_round (parens c kind) (place c kind q)
-unfolding pair_round
+pub pair-number : (c : Code) (kind : Bool) (q : ℕ) → enclosing_pair c kind q ≡ number_round (parens c kind) (place c kind q)
+unfolding enclosing_pair
 pair-number c kind q = refl
 
-pub none_at : (c : Code) (w : IsWell c) (kind : Bool) (q : ℕ) → q ≤ length c.a → excess (parens c kind) (place c kind q) ≡ pos 0 → pair_round c kind q ≡ None
+pub none_at : (c : Code) (w : IsWell c) (kind : Bool) (q : ℕ) → q ≤ length c.a → excess (parens c kind) (place c kind q) ≡ pos 0 → enclosing_pair c kind q ≡ None
 none_at c w kind q l e = pair-number c kind q ∙ none_round (parens c kind) (w.balanced kind) (place c kind q) (w.places kind q l) e
 
 -- the number at a place
-pub at_place : (c : Code) (kind : Bool) (q g : ℕ) → place c kind q ≡ g → pair_round c kind q ≡ number_round (parens c kind) g
+pub at_place : (c : Code) (kind : Bool) (q g : ℕ) → place c kind q ≡ g → enclosing_pair c kind q ≡ number_round (parens c kind) g
 at_place c kind q g e = pair-number c kind q ∙ ap (number_round (parens c kind)) e
 
 pub after_next : (c : Code) (x m : ℕ) → component_of c x ≡ m → x + 1 ≢ end_of c m → after c x ≡ x + 1
@@ -70,21 +70,21 @@ after_last c x m is h = rw is (rw (eq-eqb _ _ h) refl)
 
 module _ (c : Code) (w : IsWell c) (kind : Bool) (first : ℕ) (first_in : first < length c.a) (none_before : (y : ℕ) → y < first → is_beside c kind first y ≡ false) where
   -- a position beside the first one is in its component and has its number
-  pub beside_parts : (p m : ℕ) → IsIn c p m → is_beside c kind first p ≡ true → (component_of c first ≡ m) × (pair_round c kind first ≡ pair_round c kind p)
+  pub beside_parts : (p m : ℕ) → IsIn c p m → is_beside c kind first p ≡ true → (component_of c first ≡ m) × (enclosing_pair c kind first ≡ enclosing_pair c kind p)
   beside_parts p m i h =
-      let parts = and_parts (component_of c first == component_of c p) (same_number (pair_round c kind first) (pair_round c kind p)) h in
+      let parts = and_parts (component_of c first == component_of c p) (same_number (enclosing_pair c kind first) (enclosing_pair c kind p)) h in
       (eqb-true _ _ parts.0 ∙ i.is, same_number-true _ _ parts.1)
 
   module _ (p m : ℕ) (i : IsIn c p m) (h : is_beside c kind first p ≡ true) where
     -- a position of the component with the number of p is beside the first one
-    beside_from : (q : ℕ) → start_of c m ≤ q → q < end_of c m → pair_round c kind q ≡ pair_round c kind p → is_beside c kind first q ≡ true
+    beside_from : (q : ℕ) → start_of c m ≤ q → q < end_of c m → enclosing_pair c kind q ≡ enclosing_pair c kind p → is_beside c kind first q ≡ true
     beside_from q l r e =
         let parts = beside_parts p m i h in
-        and_from _ _ (eq-eqb _ _ (parts.0 ∙ sym (w.same_one p m q i l r))) (subst (λ o. same_number (pair_round c kind first) o ≡ true) (parts.1 ∙ sym e) (same_number-self (pair_round c kind first)))
+        and_from _ _ (eq-eqb _ _ (parts.0 ∙ sym (w.same_one p m q i l r))) (subst (λ o. same_number (enclosing_pair c kind first) o ≡ true) (parts.1 ∙ sym e) (same_number-self (enclosing_pair c kind first)))
 
     -- and one with another number is not
-    beside_not : (q : ℕ) → same_number (pair_round c kind p) (pair_round c kind q) ≡ false → is_beside c kind first q ≡ false
-    beside_not q e = let parts = beside_parts p m i h in and_right _ _ (subst (λ o. same_number o (pair_round c kind q) ≡ false) (sym parts.1) e)
+    beside_not : (q : ℕ) → same_number (enclosing_pair c kind p) (enclosing_pair c kind q) ≡ false → is_beside c kind first q ≡ false
+    beside_not q e = let parts = beside_parts p m i h in and_right _ _ (subst (λ o. same_number o (enclosing_pair c kind q) ≡ false) (sym parts.1) e)
 
     -- nor one past the component
     beside_past : (q : ℕ) → end_of c m ≤ q → q < length c.a → is_beside c kind first q ≡ false
@@ -96,21 +96,21 @@ module _ (c : Code) (w : IsWell c) (kind : Bool) (first : ℕ) (first_in : first
     first_from = let parts = beside_parts p m i h in (w.other_one p m first i first_in parts.0).0
 
     -- where p has no number, the first is the component's start
-    first_is_start : pair_round c kind p ≡ None → first ≡ start_of c m
+    first_is_start : enclosing_pair c kind p ≡ None → first ≡ start_of c m
     first_is_start e =
-        let at_start : pair_round c kind (start_of c m) ≡ None = none_at c w kind (start_of c m) (omega (arith, i.from, i.to, i.within)) (w.flat_start kind p m i) in
+        let at_start : enclosing_pair c kind (start_of c m) ≡ None = none_at c w kind (start_of c m) (omega (arith, i.from, i.to, i.within)) (w.flat_start kind p m i) in
         let b = beside_from (start_of c m) (omega arith) (omega (arith, i.from, i.to)) (at_start ∙ sym e) in
         elim (cases_lt (start_of c m) first) [ inl l ↦ absurd (both_ways _ (none_before (start_of c m) l) b) | inr g ↦ omega (arith, g, first_from) ]
 
     -- from x on, where no position of the component after p has p's number: on to x + 1, which has it, or round to the start
-    pub goes_after : (x : ℕ) → component_of c x ≡ m → p ≤ x → x < end_of c m → pair_round c kind (x + 1) ≡ pair_round c kind p
+    pub goes_after : (x : ℕ) → component_of c x ≡ m → p ≤ x → x < end_of c m → enclosing_pair c kind (x + 1) ≡ enclosing_pair c kind p
         → ((y : ℕ) → p < y → y ≤ x → is_beside c kind first y ≡ false) → Goes (is_beside c kind first) (length c.a) first p (after c x)
     goes_after x is l r same none =
         elim (cases_eq (x + 1) (end_of c m)) [
           | inl e ↦
               let flat = w.flat_end kind p m i in
-              let at_end : pair_round c kind (end_of c m) ≡ None = none_at c w kind (end_of c m) i.within flat in
-              let no_number : pair_round c kind p ≡ None = sym same ∙ ap (pair_round c kind) e ∙ at_end in
+              let at_end : enclosing_pair c kind (end_of c m) ≡ None = none_at c w kind (end_of c m) i.within flat in
+              let no_number : enclosing_pair c kind p ≡ None = sym same ∙ ap (enclosing_pair c kind) e ∙ at_end in
               inr (after_last c x m is e ∙ sym (first_is_start no_number), record { none = λ y a b. elim (cases_lt x y) [ inl z ↦ beside_past y (omega (arith, e)) b | inr z ↦ none y a z ] })
           | inr e ↦
               let step_to : after c x ≡ x + 1 = after_next c x m is e in
@@ -122,7 +122,7 @@ module _ (c : Code) (w : IsWell c) (kind : Bool) (first : ℕ) (first_in : first
 
     goes_over : (is : is_tree c p ≡ kind) → HasMate c kind p m → Goes (is_beside c kind first) (length c.a) first p (after c (mate c p))
     goes_over is (Opens q j arc k order inside) =
-        let past : pair_round c kind (q + 1) ≡ pair_round c kind p =
+        let past : enclosing_pair c kind (q + 1) ≡ enclosing_pair c kind p =
         at_place c kind (q + 1) (j + 1) (place_next c kind q k.within k.is_kind ∙ ap (λ z. z + 1) k.at_place)
         ∙ number_past (parens c kind) (w.balanced kind) (place c kind p) j arc ∙ sym (pair-number c kind p) in
         rw k.is_mate (goes_after q (w.same_one p m q i (omega (arith, i.from, order)) inside) (omega (arith, order)) inside past
@@ -133,9 +133,9 @@ module _ (c : Code) (w : IsWell c) (kind : Bool) (first : ℕ) (first_in : first
         (let v = place_before c kind y q b in omega (arith, v, k.at_place))))))
     goes_over is (Closes q n arc k order from) =
         let p_in : p < length c.a = omega (arith, i.to, i.within) in
-        let here : pair_round c kind p ≡ Some (rank true (parens c kind) n) = pair-number c kind p ∙ number_end (parens c kind) (w.balanced kind) n (place c kind p) arc in
+        let here : enclosing_pair c kind p ≡ Some (rank true (parens c kind) n) = pair-number c kind p ∙ number_end (parens c kind) (w.balanced kind) n (place c kind p) arc in
         let place_q : place c kind (q + 1) ≡ n + 1 = place_next c kind q k.within k.is_kind ∙ ap (λ z. z + 1) k.at_place in
-        let there : pair_round c kind (q + 1) ≡ Some (rank true (parens c kind) n) = at_place c kind (q + 1) (n + 1) place_q ∙ number_first (parens c kind) (w.balanced kind) n (place c kind p) arc in
+        let there : enclosing_pair c kind (q + 1) ≡ Some (rank true (parens c kind) n) = at_place c kind (q + 1) (n + 1) place_q ∙ number_first (parens c kind) (w.balanced kind) n (place c kind p) arc in
         let comp : component_of c q ≡ m = w.same_one p m q i from (omega (arith, i.to, order)) in
         let passes = beside_from (q + 1) (omega (arith, from)) (omega (arith, i.to, order)) (there ∙ sym here) in
         let low : first ≤ q + 1 = elim (cases_lt (q + 1) first) [ inl l ↦ absurd (both_ways _ (none_before (q + 1) l) passes) | inr g ↦ g ] in
@@ -146,8 +146,8 @@ module _ (c : Code) (w : IsWell c) (kind : Bool) (first : ℕ) (first_in : first
               let v = place_before c kind first q g in
               let apart = apart_before (parens c kind) (w.balanced kind) n (place c kind p) arc (place c kind first) (omega (arith, v, k.at_place)) in
               let parts = beside_parts p m i h in
-              let x : same_number (pair_round c kind p) (pair_round c kind first) ≡ false = rw here (rw (pair-number c kind first) apart) in
-              absurd (both_ways _ x (subst (λ o. same_number (pair_round c kind p) o ≡ true) (sym parts.1) (same_number-self (pair_round c kind p))))
+              let x : same_number (enclosing_pair c kind p) (enclosing_pair c kind first) ≡ false = rw here (rw (pair-number c kind first) apart) in
+              absurd (both_ways _ x (subst (λ o. same_number (enclosing_pair c kind p) o ≡ true) (sym parts.1) (same_number-self (enclosing_pair c kind p))))
         ] in
         let e : q + 1 ≡ first = omega (arith, low, up) in
         rw k.is_mate
@@ -168,7 +168,7 @@ module _ (c : Code) (w : IsWell c) (kind : Bool) (first : ℕ) (first_in : first
         elim (cases_kind kind (is_tree c p)) [
           | inl is ↦ subst (λ x. Goes (is_beside c kind first) (length c.a) first p (after c x)) (sym (over_mate c kind p is)) (goes_over is (w.mates kind p m i is))
           | inr other ↦
-              let same : pair_round c kind (p + 1) ≡ pair_round c kind p = at_place c kind (p + 1) (place c kind p) (place_other c kind p (omega (arith, i.to, i.within)) other) ∙ sym (pair-number c kind p) in
+              let same : enclosing_pair c kind (p + 1) ≡ enclosing_pair c kind p = at_place c kind (p + 1) (place c kind p) (place_other c kind p (omega (arith, i.to, i.within)) other) ∙ sym (pair-number c kind p) in
               subst (λ x. Goes (is_beside c kind first) (length c.a) first p (after c x)) (sym (over_other c kind p other)) (goes_after p i.is (omega arith) i.to same (λ y a b. absurd (omega arith)))
         ]
 

@@ -5,9 +5,9 @@ use Rattle.std.proofs.lemmas.Bool.{cases_Bool}
 use Rattle.std.proofs.lemmas.List.Sums.{sum_by-cons}
 use Rattle.bit_words.specs.Bits.{rank, same}
 use Rattle.bit_words.proofs.Ranks.{rank-zero}
+use Rattle.rank_select.proofs.Selects.{same-self}
 use Rattle.code_laws.specs.Code.{is_first, parens}
 use Rattle.code_laws.specs.Tour.{picked, code_of}
-use Rattle.rank_select.proofs.Selects.{same-self}
 
 rank-cons : (bit b : Bool) (bits : List Bool) (i : ℕ) → rank bit (b ∷ bits) (suc i) ≡ (if same bit b then 1 else 0) + rank bit bits i
 unfolding rank

@@ -1,7 +1,7 @@
 -- What the mate of a position has, and what steps have.
 use Rattle.std.specs.Prelude.{ℕ, ◌≡◌, ◌≢◌, ◌<◌, Bool, not, length}
 use Rattle.code_laws.specs.Code.{Code, is_tree, is_first, mate, component_of, step, step_back}
-use Rattle.code_laws.specs.Numbers.{edge_of, pair_round}
+use Rattle.code_laws.specs.Numbers.{edge_of, enclosing_pair}
 
 -- the mate of a position is the other position of its edge, in the same component
 pub record MateLaws (c : Code) (p : ℕ) : Type 0 where
@@ -20,4 +20,4 @@ pub record StepLaws (c : Code) (kind : Bool) (p : ℕ) : Type 0 where
   pub back : step_back c kind (step c kind p) ≡ p
   pub forth : step c kind (step_back c kind p) ≡ p
   pub component : component_of c (step c kind p) ≡ component_of c p
-  pub number : pair_round c kind (step c kind p) ≡ pair_round c kind p
+  pub number : enclosing_pair c kind (step c kind p) ≡ enclosing_pair c kind p

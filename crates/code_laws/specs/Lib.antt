@@ -6,4 +6,4 @@ pub mod Orbits
 pub mod Laws
 pub mod Counts
 pub mod Worked
-pub mod Rounds
+pub mod Enclosing

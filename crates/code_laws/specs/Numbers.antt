@@ -26,8 +26,8 @@ unfoldable pub edge_of : Code → ℕ → ℕ
 edge_of c p = if is_tree c p then pair_number c.tree (place c true p) else tree_edges c + pair_number c.dual (place c false p)
 
 -- the number, among the pairs of a kind, of the innermost one round the gap before p
-unfoldable pub pair_round : Code → Bool → ℕ → Option ℕ
-pair_round c kind p = option_map (rank true (parens c kind)) (innermost (parens c kind) (place c kind p))
+unfoldable pub enclosing_pair : Code → Bool → ℕ → Option ℕ
+enclosing_pair c kind p = option_map (rank true (parens c kind)) (innermost (parens c kind) (place c kind p))
 
 abbrev pub node_or_root : Code → ℕ → Option ℕ → ℕ
 node_or_root c p None = component_of c p
@@ -35,7 +35,7 @@ node_or_root c p (Some j) = component_count c + j
 
 -- the node that a position leaves: its component's root, or the one that a tree edge first reaches
 unfoldable pub node_of : Code → ℕ → ℕ
-node_of c p = node_or_root c p (pair_round c true p)
+node_of c p = node_or_root c p (enclosing_pair c true p)
 
 abbrev pub shell_or_outer : Code → ℕ → Option ℕ → RingNumber
 shell_or_outer c p None = Outer (component_of c p)
@@ -43,7 +43,7 @@ shell_or_outer c p (Some j) = Shell j
 
 -- the ring of a position: its component's outer ring, or the shell of an edge that is not in the tree
 unfoldable pub ring_of : Code → ℕ → RingNumber
-ring_of c p = shell_or_outer c p (pair_round c false p)
+ring_of c p = shell_or_outer c p (enclosing_pair c false p)
 
 -- whether a ring is this shell, and whether it is this outer ring
 abbrev pub is_shell : ℕ → RingNumber → Bool

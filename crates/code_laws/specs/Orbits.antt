@@ -3,7 +3,7 @@ use Rattle.std.specs.Prelude.{ℕ, ◌==◌, Bool, true, false, ◌&&◌, List, 
 use Rattle.std.specs.List.{range_with_len}
 use Rattle.orbits.specs.Walks as walks
 use Rattle.code_laws.specs.Code.{Code, positions, component_of, step}
-use Rattle.code_laws.specs.Numbers.{pair_round}
+use Rattle.code_laws.specs.Numbers.{enclosing_pair}
 
 -- p, f p, f (f p) and so on up to the first return to `first`: the first n of these
 abbrev pub walk : ℕ → (ℕ → ℕ) → ℕ → ℕ → List ℕ
@@ -20,7 +20,7 @@ same_number (Some i) (Some j) = i == j
 
 -- whether two positions have the same pair of a kind round their gaps, or none in the same component
 abbrev pub is_beside : Code → Bool → ℕ → ℕ → Bool
-is_beside c kind p q = (component_of c p == component_of c q) && same_number (pair_round c kind p) (pair_round c kind q)
+is_beside c kind p q = (component_of c p == component_of c q) && same_number (enclosing_pair c kind p) (enclosing_pair c kind q)
 
 -- the positions beside p, rising
 abbrev pub beside : Code → Bool → ℕ → List ℕ

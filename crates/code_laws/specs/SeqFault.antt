@@ -1,6 +1,7 @@
 -- When three sequences of bits are a code, and the first thing that is wrong where they are not.
-use Rattle.std.specs.Prelude.{ℕ, ◌+◌, ◌-◌, ◌==◌, Bool, true, false, not, ◌&&◌, nat_lt, if◌then◌else◌, List, [], ◌∷◌, length, find, Option, Some, None, option_map, is_none}
+use Rattle.std.specs.Prelude.{ℕ, ◌+◌, ◌-◌, ◌==◌, Bool, true, false, not, ◌&&◌, nat_lt, if◌then◌else◌, [], ◌∷◌, length, find, Option, Some, None, option_map, is_none}
 use Rattle.std.specs.List.{range_with_len}
+use Rattle.bit_words.specs.Lists.{first_some}
 use Rattle.bit_words.specs.Bits.{rank}
 use Rattle.parens.specs.Matching.{is_balanced}
 use Rattle.code_laws.specs.Code.{Code, parens, place, start_of, end_of, component_count}
@@ -25,12 +26,6 @@ balance_fault_of c kind = find (λ j. not (is_balanced_in c kind j)) (range_with
 
 abbrev pub ones_fault : Code → Option ℕ
 ones_fault c = let ones = rank true c.a (length c.a) in if ones == length c.tree then None else Some ones
-
--- the first of some faults
-unfoldable pub first_some : {X : Type 0} → List (Option X) → Option X
-first_some [] = None
-first_some (None ∷ faults) = first_some faults
-first_some (Some x ∷ faults) = Some x
 
 unfoldable pub seq_fault : Code → Option SeqFault
 seq_fault c =

@@ -44,9 +44,9 @@ abbrev pub In : ℕ → List ℕ → Type 0
 In i [] = ⊥
 In i (j ∷ r) = (i ≡ j) ⊎ In i r
 
-abbrev pub IsFirst : ℕ → List ℕ → Type 0
-IsFirst i [] = ⊥
-IsFirst i (j ∷ r) = i ≡ j
+abbrev pub IsHeadOf : ℕ → List ℕ → Type 0
+IsHeadOf i [] = ⊥
+IsHeadOf i (j ∷ r) = i ≡ j
 
 -- the steps that are open where the walk stands at v before step b, the last one first
 abbrev pub IsStack : (ℕ → ℕ) → (ℕ → ℕ) → List ℕ → ℕ → ℕ → Type 0
@@ -63,7 +63,7 @@ pub weaken : (mate w : ℕ → ℕ) (st : List ℕ) (v v' b b' : ℕ) → v ≡ 
 weaken mate w [] v v' b b' e le s = tt
 weaken mate w (j ∷ r) v v' b b' e le s = let h : j < b = s.1 in (sym e ∙ s.0, omega arith, s.2, s.3)
 
-pub first_is_last : (mate w : ℕ → ℕ) (st : List ℕ) (v b i j : ℕ) → IsStack mate w st v b → IsFirst i st → In j st → j ≤ i
+pub first_is_last : (mate w : ℕ → ℕ) (st : List ℕ) (v b i j : ℕ) → IsStack mate w st v b → IsHeadOf i st → In j st → j ≤ i
 first_is_last mate w [] v b i j s f m = absurd f
 first_is_last mate w (t ∷ r) v b i j s f m =
     ⊎_elim (λ e. let h : i ≡ t = f in omega arith)
@@ -98,7 +98,7 @@ module _ (n : ℕ) (mate w : ℕ → ℕ) (p : IsPairing n mate) (walk : IsWalk 
 
   module _ (fresh : AllFresh mate w n) where
     -- a second step closes the step that was opened last
-    pub closes_last : (k : ℕ) → k < n → (st : List ℕ) → IsStack mate w st (w k) k → In (mate k) st → IsFirst (mate k) st
+    pub closes_last : (k : ℕ) → k < n → (st : List ℕ) → IsStack mate w st (w k) k → In (mate k) st → IsHeadOf (mate k) st
     closes_last k lt [] s m = absurd m
     closes_last k lt (j ∷ r) s m =
         ⊎_elim (λ e. e)
@@ -109,7 +109,7 @@ module _ (n : ℕ) (mate w : ℕ → ℕ) (p : IsPairing n mate) (walk : IsWalk 
         absurd (unused w (w (suc j)) (suc j) (suc (mate k)) (fresh j (omega arith) s.2) (omega arith) same))
         m
 
-    closed : (k : ℕ) → k < n → mate k < k → (st : List ℕ) → IsStack mate w st (w k) k → ((i : ℕ) → i < k → k ≤ mate i → In i st) → IsFirst (mate k) st → (st' : List ℕ) × IsStack mate w st' (w (suc k)) (suc k) × ((i : ℕ) → i < suc k → suc k ≤ mate i → In i st')
+    closed : (k : ℕ) → k < n → mate k < k → (st : List ℕ) → IsStack mate w st (w k) k → ((i : ℕ) → i < k → k ≤ mate i → In i st) → IsHeadOf (mate k) st → (st' : List ℕ) × IsStack mate w st' (w (suc k)) (suc k) × ((i : ℕ) → i < suc k → suc k ≤ mate i → In i st')
     closed k lt second [] s all f = absurd f
     closed k lt second (j ∷ r) s all f =
         let before : j < k = s.1 in
@@ -159,6 +159,6 @@ module _ (n : ℕ) (mate w : ℕ → ℕ) (p : IsPairing n mate) (walk : IsWalk 
         let at : (st : List ℕ) × IsStack mate w st (w (mate i)) (mate i) × ((l : ℕ) → l < mate i → mate i ≤ mate l → In l st) = stack_at (mate i) (omega arith) in
         let i_in : In (mate (mate i)) at.0 = at.2 (mate (mate i)) (omega arith) (omega (arith, ap mate back)) in
         let j_in : In j at.0 = at.2 j inside (omega arith) in
-        let first : IsFirst (mate (mate i)) at.0 = closes_last (mate i) k_lt at.0 at.1 i_in in
+        let first : IsHeadOf (mate (mate i)) at.0 = closes_last (mate i) k_lt at.0 at.1 i_in in
         let le : j ≤ mate (mate i) = first_is_last mate w at.0 (w (mate i)) (mate i) (mate (mate i)) j at.1 first j_in in
         omega arith

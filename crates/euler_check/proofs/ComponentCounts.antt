@@ -18,14 +18,14 @@ use Rattle.plane_model.proofs.ComponentParts.{component-node, component-round, c
 use Rattle.rotation_check.specs.Darts.{RotationRows, IsRotation, map_of_rotation, signed_edge}
 use Rattle.rotation_check.proofs.DartLists.{dart_place, signed_there}
 use Rattle.rotation_check.proofs.EndLemmas.{node_id-get}
-use Rattle.euler_check.specs.Counts.{ArePlaces, AreCounted, AreCountsOf, HasNumber, LeavesRow, count_below, is_in}
+use Rattle.euler_check.specs.Counts.{AreLabelDarts, AreCounted, AreCountsOf, HasNumber, LeavesRow, count_below, is_in}
 use Rattle.euler_check.specs.Marks.{number_at}
-use Rattle.euler_check.specs.Numbers.{Numbers, AreNumbers}
+use Rattle.euler_check.specs.Numbers.{Numbers, ArePartNumbers}
 use Rattle.euler_check.proofs.Counted.{rings_passing}
 use Rattle.euler_check.proofs.Counting.{count-list, count-same, pass_rising}
 use Rattle.euler_check.proofs.Walking.{own_rows}
 
-module _ (r : RotationRows) (is : IsRotation r) (components : Numbers) (are : AreNumbers r.edges (component (map_of_rotation r)) components) where
+module _ (r : RotationRows) (is : IsRotation r) (components : Numbers) (are : ArePartNumbers r.edges (component (map_of_rotation r)) components) where
   m : PlaneMap
   m = map_of_rotation r
 
@@ -107,7 +107,7 @@ module _ (r : RotationRows) (is : IsRotation r) (components : Numbers) (are : Ar
       at (x ∷ xs) zero h = or_left _ _ (eq-eqb x x refl)
       at (x ∷ xs) (suc k) h = or_right _ _ (at xs k (omega arith))
 
-  pub nodes_counted : (darts : List (Option ℕ)) (counts : List ℕ) → ArePlaces (LeavesRow r) (length r.nodes) (2 * length r.edges) darts → AreCounted components (number_at darts) (length darts) counts → AreCountsOf r node_count components counts
+  pub nodes_counted : (darts : List (Option ℕ)) (counts : List ℕ) → AreLabelDarts (LeavesRow r) (length r.nodes) (2 * length r.edges) darts → AreCounted components (number_at darts) (length darts) counts → AreCountsOf r node_count components counts
   nodes_counted darts counts places all =
       record {
         size = all.size;
@@ -134,7 +134,7 @@ module _ (r : RotationRows) (is : IsRotation r) (components : Numbers) (are : Ar
           ∙ same_number s d h it.0 ∙ ap (is_in components (get_or components.of_darts s 0)) (sym e)
 
   -- rings: each has a dart, and that one decides
-  pub rings_counted_in : (rings : Numbers) → AreNumbers r.edges (ring (map_of_rotation r)) rings → (darts : List (Option ℕ)) (counts : List ℕ) → ArePlaces (HasNumber rings) rings.count (2 * length r.edges) darts
+  pub rings_counted_in : (rings : Numbers) → ArePartNumbers r.edges (ring (map_of_rotation r)) rings → (darts : List (Option ℕ)) (counts : List ℕ) → AreLabelDarts (HasNumber rings) rings.count (2 * length r.edges) darts
       → AreCounted components (number_at darts) (length darts) counts → AreCountsOf r ring_count components counts
   rings_counted_in rings_are_of rings_are darts counts places all =
       record {

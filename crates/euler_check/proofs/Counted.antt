@@ -15,7 +15,7 @@ use Rattle.plane_model.proofs.ComponentParts.{component_named, components_counte
 use Rattle.rotation_check.specs.Darts.{RotationRows, IsRotation, map_of_rotation, signed_edge}
 use Rattle.rotation_check.proofs.DartLists.{dart_edges, dart_place, dart_to_signed, signed_to_dart, signed_there}
 use Rattle.euler_check.specs.Counts.{count_below}
-use Rattle.euler_check.specs.Numbers.{Numbers, AreNumbers}
+use Rattle.euler_check.specs.Numbers.{Numbers, ArePartNumbers}
 use Rattle.euler_check.proofs.Walking.{own_rows}
 
 image_back : (f : ℤ → ℤ) (ds : List ℤ) (x : ℤ) → has_edge (map f ds) x ≡ true → (d : ℤ) × (has_edge ds d ≡ true) × (x ≡ f d)
@@ -34,7 +34,7 @@ record NamesBelow (edges : List EdgeRow) (part : ℤ → List ℤ) (of_darts : L
   into : (d : ℕ) → d < 2 * length edges → get_or of_darts d 0 < n → has_edge names (smallest (signed_edge edges d) (part (signed_edge edges d))) ≡ true
   passing : (p : ℤ → Bool) (q : ℕ → Bool) → ((d : ℕ) → d < 2 * length edges → p (smallest (signed_edge edges d) (part (signed_edge edges d))) ≡ q (get_or of_darts d 0)) → length (filter p names) ≡ count_below n q
 
-module _ (edges : List EdgeRow) (us : List ℤ) (part : ℤ → List ℤ) (named : IsNamed us part) (there : (d : ℕ) → d < 2 * length edges → has_edge us (signed_edge edges d) ≡ true) (numbers : Numbers) (are : AreNumbers edges part numbers) where
+module _ (edges : List EdgeRow) (us : List ℤ) (part : ℤ → List ℤ) (named : IsNamed us part) (there : (d : ℕ) → d < 2 * length edges → has_edge us (signed_edge edges d) ≡ true) (numbers : Numbers) (are : ArePartNumbers edges part numbers) where
   names_below : (n : ℕ) → n ≤ numbers.count → NamesBelow edges part numbers.of_darts n
   unfolding count_below
   names_below zero h = record { names = []; size = refl; once = refl; from = λ x on. absurd (both_ways false refl on); into = λ d q lt. absurd (omega arith); passing = λ p q same. refl }
@@ -85,7 +85,7 @@ module _ (r : RotationRows) (is : IsRotation r) where
   darts_all : (d : ℤ) → has_edge (dart_edges r.edges) d ≡ has_edge (signed_edges (map_of (own_rows r))) d
   darts_all d = same_tests (has_edge (dart_edges r.edges) d) (has_edge (signed_edges (map_of (own_rows r))) d) (dart_to_signed (own_rows r) d) (signed_to_dart (own_rows r) d)
 
-  names_are : (part : ℤ → List ℤ) (numbers : Numbers) → AreNumbers r.edges part numbers → (all : NamesBelow r.edges part numbers.of_darts numbers.count)
+  names_are : (part : ℤ → List ℤ) (numbers : Numbers) → ArePartNumbers r.edges part numbers → (all : NamesBelow r.edges part numbers.of_darts numbers.count)
       → (x : ℤ) → has_edge all.names x ≡ has_edge (map (λ d. smallest d (part d)) (dart_edges r.edges)) x
   names_are part numbers are all x =
       same_tests (has_edge all.names x) (has_edge (map (λ d. smallest d (part d)) (dart_edges r.edges)) x)
@@ -99,7 +99,7 @@ module _ (r : RotationRows) (is : IsRotation r) where
       subst (λ z. has_edge all.names z ≡ true) (ap (λ z. smallest z (part z)) d.2 ∙ sym e.2) (all.into d.0 d.1 (are.below d.0 d.1)))
 
   -- as many rings pass as numbers of rings
-  pub rings_passing : (numbers : Numbers) → AreNumbers r.edges (ring (map_of_rotation r)) numbers → (p : ℤ → Bool) (q : ℕ → Bool)
+  pub rings_passing : (numbers : Numbers) → ArePartNumbers r.edges (ring (map_of_rotation r)) numbers → (p : ℤ → Bool) (q : ℕ → Bool)
       → ((d : ℕ) → d < 2 * length r.edges → p (smallest (signed_edge r.edges d) (ring (map_of_rotation r) (signed_edge r.edges d))) ≡ q (get_or numbers.of_darts d 0)) → length (filter p (rings (map_of_rotation r))) ≡ count_below numbers.count q
   unfolding named
   rings_passing numbers are p q same =
@@ -116,12 +116,12 @@ module _ (r : RotationRows) (is : IsRotation r) where
       as_many_pass : (p : ℤ → Bool) (xs ys : List ℤ) → is_distinct_edges xs ≡ true → is_distinct_edges ys ≡ true → ((x : ℤ) → has_edge xs x ≡ has_edge ys x) → length (filter p xs) ≡ length (filter p ys)
       as_many_pass p xs ys xs_apart ys_apart members = let a = half p xs ys xs_apart members in let b = half p ys xs ys_apart (λ x. sym (members x)) in omega arith
 
-  pub as_many_rings : (numbers : Numbers) → AreNumbers r.edges (ring (map_of_rotation r)) numbers → numbers.count ≡ length (rings (map_of_rotation r))
+  pub as_many_rings : (numbers : Numbers) → ArePartNumbers r.edges (ring (map_of_rotation r)) numbers → numbers.count ≡ length (rings (map_of_rotation r))
   as_many_rings numbers are =
       let all = names_below r.edges (signed_edges (map_of_rotation r)) (ring (map_of_rotation r)) (ring_named (own_rows r) is.rotation) (signed_there (own_rows r)) numbers are numbers.count (omega arith) in
       sym all.size ∙ rings_counted (own_rows r) is.rotation (dart_edges r.edges) all.names darts_all all.once (names_are (ring (map_of_rotation r)) numbers are all)
 
-  pub as_many_components : (numbers : Numbers) → AreNumbers r.edges (component (map_of_rotation r)) numbers → numbers.count ≡ length (components (map_of_rotation r))
+  pub as_many_components : (numbers : Numbers) → ArePartNumbers r.edges (component (map_of_rotation r)) numbers → numbers.count ≡ length (components (map_of_rotation r))
   as_many_components numbers are =
       let all = names_below r.edges (signed_edges (map_of_rotation r)) (component (map_of_rotation r)) (component_named (own_rows r) is.rotation) (signed_there (own_rows r)) numbers are numbers.count (omega arith) in
       sym all.size ∙ components_counted (own_rows r) is.rotation (dart_edges r.edges) all.names darts_all all.once (names_are (component (map_of_rotation r)) numbers are all)

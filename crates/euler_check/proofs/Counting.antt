@@ -6,7 +6,7 @@ use Rattle.std.proofs.lemmas.Bool.{cases_Bool, cases_eq, cases_lt, ne_eqb}
 use Rattle.std.proofs.lemmas.Grind.{get_or_default_zero}
 use Rattle.std.proofs.lemmas.List.{get_or-set_same, get_or-set_other, length-replicate}
 use Rattle.plane_model.specs.Sets.{put, rising}
-use Rattle.euler_check.specs.Counts.{ArePlaces, AreCounted, count_below, is_in}
+use Rattle.euler_check.specs.Counts.{AreLabelDarts, AreCounted, count_below, is_in}
 use Rattle.euler_check.specs.Marks.{number_at}
 use Rattle.euler_check.specs.Numbers.{Numbers}
 use Rattle.euler_check.proofs.Numbered.{not_both}
@@ -143,7 +143,7 @@ counted_room parts dart k x v counts h read old =
     omega arith
 
 -- a dart of each label, one dart further
-pub places_none : (Has : ℕ → ℕ → Type 0) (labels : ℕ) (darts : List (Option ℕ)) → darts ≡ replicate labels None → ArePlaces Has labels 0 darts
+pub places_none : (Has : ℕ → ℕ → Type 0) (labels : ℕ) (darts : List (Option ℕ)) → darts ≡ replicate labels None → AreLabelDarts Has labels 0 darts
 places_none Has labels darts is =
     record {
       size = ap length is ∙ length-replicate labels None;
@@ -156,8 +156,8 @@ places_none Has labels darts is =
     missing (suc n) zero = refl
     missing (suc n) (suc x) = missing n x
 
-pub places_next : (Has : ℕ → ℕ → Type 0) (labels k y : ℕ) (darts : List (Option ℕ)) → y < labels → Has y k → ((x : ℕ) → x < labels → Has x k → x ≡ y) → ArePlaces Has labels k darts
-    → ArePlaces Has labels (k + 1) (slice_set darts y (Some k))
+pub places_next : (Has : ℕ → ℕ → Type 0) (labels k y : ℕ) (darts : List (Option ℕ)) → y < labels → Has y k → ((x : ℕ) → x < labels → Has x k → x ≡ y) → AreLabelDarts Has labels k darts
+    → AreLabelDarts Has labels (k + 1) (slice_set darts y (Some k))
 places_next Has labels k y darts below here one old =
     let size = old.size in
     let at : number_at (slice_set darts y (Some k)) y ≡ Some k = get_or-set_same darts y (Some k) None (omega arith) in

@@ -15,7 +15,7 @@ use Rattle.plane_model.proofs.RotationOrbits.{turn_permutes}
 use Rattle.rotation_check.specs.Darts.{RotationRows, IsRotation, map_of_rotation, reverse_dart, signed_edge}
 use Rattle.rotation_check.proofs.DartLists.{dart_place}
 use Rattle.rotation_check.proofs.Turning.{reverse-within, signed-reverse_dart}
-use Rattle.euler_check.specs.Marks.{number_at, AreMarked, IsReached}
+use Rattle.euler_check.specs.Marks.{number_at, DartsGetNumber, IsReached}
 use Rattle.euler_check.proofs.Numbered.{is_option, not_both}
 use Rattle.euler_check.proofs.Walking.{own_rows, there, one_dart}
 
@@ -286,7 +286,7 @@ module _ (r : RotationRows) (is : IsRotation r) (first number : ℕ) (old : List
   -- where none wait, all have the number
   pub flooding_done : (new : List (Option ℕ)) (waiting : List ℕ) → waiting ≡ [] → IsFlooding r first number old new waiting
       → ((d : ℕ) → d < 2 * length r.edges → (e : ℕ) × (e < 2 * length r.edges) × (signed_edge r.edges e ≡ turn (map_of_rotation r) (signed_edge r.edges d)))
-      → AreMarked r.edges (component (map_of_rotation r) (signed_edge r.edges first)) number old new
+      → DartsGetNumber r.edges (component (map_of_rotation r) (signed_edge r.edges first)) number old new
   flooding_done new waiting none m turn_of =
       let in_part : ℤ → Bool = has_edge (component (map_of_rotation r) (signed_edge r.edges first)) in
       let has_number : ℤ → Bool = λ x. marked r.edges number new (2 * length r.edges) x && in_part x in

@@ -7,8 +7,8 @@ use Rattle.plane_model.specs.declared.rows.EdgeRow.{EdgeRow}
 use Rattle.plane_model.specs.Sets.{has_edge}
 use Rattle.plane_model.specs.Orders.{IsPartition}
 use Rattle.rotation_check.specs.Darts.{signed_edge}
-use Rattle.euler_check.specs.Marks.{number_at, AreMarked, AreNumbered}
-use Rattle.euler_check.specs.Numbers.{Numbers, AreNumbers}
+use Rattle.euler_check.specs.Marks.{number_at, DartsGetNumber, FirstAreNumbered}
+use Rattle.euler_check.specs.Numbers.{Numbers, ArePartNumbers}
 
 -- two numbers of one dart are one
 one_number : (o : Option ℕ) (x y : ℕ) → o ≡ Some x → o ≡ Some y → x ≡ y
@@ -38,7 +38,7 @@ module _ (edges : List EdgeRow) (us : List ℤ) (part : ℤ → List ℤ) (p : I
   part_back : (d e : ℕ) → d < 2 * length edges → e < 2 * length edges → has_edge (part (signed_edge edges d)) (signed_edge edges e) ≡ true → has_edge (part (signed_edge edges e)) (signed_edge edges d) ≡ true
   part_back d e h q on = sym (part_same d e h q on (signed_edge edges d)) ∙ p.own (signed_edge edges d) (there d h)
 
-  module _ (k count : ℕ) (old new : List (Option ℕ)) (h : k < 2 * length edges) (before : AreNumbered edges part k count old) (none : number_at old k ≡ None) (marked : AreMarked edges (part (signed_edge edges k)) count old new) where
+  module _ (k count : ℕ) (old new : List (Option ℕ)) (h : k < 2 * length edges) (before : FirstAreNumbered edges part k count old) (none : number_at old k ≡ None) (marked : DartsGetNumber edges (part (signed_edge edges k)) count old new) where
     read : (d x : ℕ) → d < 2 * length edges → number_at new d ≡ Some x → ((has_edge (part (signed_edge edges k)) (signed_edge edges d) ≡ true) × (x ≡ count)) ⊎ (number_at old d ≡ Some x)
     read d x q has = elim (cases_Bool (has_edge (part (signed_edge edges k)) (signed_edge edges d))) [
       | inl on ↦ inl (on, one_number (number_at new d) x count has (marked.inside d q on))
@@ -109,7 +109,7 @@ module _ (edges : List EdgeRow) (us : List ℤ) (part : ℤ → List ℤ) (p : I
           (f.0, f.1, kept f.0 y (omega arith) f.2)
     ]
 
-    pub numbered_next : AreNumbered edges part (k + 1) (count + 1) new
+    pub numbered_next : FirstAreNumbered edges part (k + 1) (count + 1) new
     numbered_next =
         let f = before.few in
         record {
@@ -127,7 +127,7 @@ module _ (edges : List EdgeRow) (us : List ℤ) (part : ℤ → List ℤ) (p : I
         }
 
   -- before the first dart
-  pub numbered_none : (numbers : List (Option ℕ)) (n : ℕ) → n ≡ length edges → numbers ≡ replicate (2 * n) None → AreNumbered edges part 0 0 numbers
+  pub numbered_none : (numbers : List (Option ℕ)) (n : ℕ) → n ≡ length edges → numbers ≡ replicate (2 * n) None → FirstAreNumbered edges part 0 0 numbers
   numbered_none numbers n n_is is = let none : (d : ℕ) → number_at numbers d ≡ None = λ d. ap (λ xs. number_at xs d) is ∙ none_at (2 * n) d in record {
     size = ap length is ∙ length-replicate (2 * n) None ∙ ap (λ k. 2 * k) n_is;
     few = omega arith;
@@ -140,7 +140,7 @@ module _ (edges : List EdgeRow) (us : List ℤ) (part : ℤ → List ℤ) (p : I
   }
 
   -- where a dart has no number, its part has none
-  pub no_number : (k count : ℕ) (old : List (Option ℕ)) → k < 2 * length edges → AreNumbered edges part k count old → number_at old k ≡ None
+  pub no_number : (k count : ℕ) (old : List (Option ℕ)) → k < 2 * length edges → FirstAreNumbered edges part k count old → number_at old k ≡ None
       → (d : ℕ) → d < 2 * length edges → has_edge (part (signed_edge edges k)) (signed_edge edges d) ≡ true → number_at old d ≡ None
   no_number k count old h before none d q on = elim (is_option (number_at old d)) [
     | inl missing ↦ missing
@@ -148,7 +148,7 @@ module _ (edges : List EdgeRow) (us : List ℤ) (part : ℤ → List ℤ) (p : I
   ]
 
   -- where it has a number already
-  pub numbered_skip : (k count x : ℕ) (numbers : List (Option ℕ)) → AreNumbered edges part k count numbers → number_at numbers k ≡ Some x → AreNumbered edges part (k + 1) count numbers
+  pub numbered_skip : (k count x : ℕ) (numbers : List (Option ℕ)) → FirstAreNumbered edges part k count numbers → number_at numbers k ≡ Some x → FirstAreNumbered edges part (k + 1) count numbers
   numbered_skip k count x numbers before has =
       let f = before.few in
       record {
@@ -165,7 +165,7 @@ module _ (edges : List EdgeRow) (us : List ℤ) (part : ℤ → List ℤ) (p : I
         earlier = before.earlier;
       }
 
-  module _ (count : ℕ) (numbers : List (Option ℕ)) (all : AreNumbered edges part (2 * length edges) count numbers) where
+  module _ (count : ℕ) (numbers : List (Option ℕ)) (all : FirstAreNumbered edges part (2 * length edges) count numbers) where
     values : List ℕ
     values = map (λ n. unwrap_or n 0) numbers
 
@@ -175,7 +175,7 @@ module _ (edges : List EdgeRow) (us : List ℤ) (part : ℤ → List ℤ) (p : I
     is_value : (d x : ℕ) → number_at numbers d ≡ Some x → get_or (map (λ n. unwrap_or n 0) numbers) d 0 ≡ x
     is_value d x has = value-map numbers d ∙ ap (λ o. unwrap_or o 0) has
 
-    pub numbered_all : AreNumbers edges part (record { count = count; of_darts = map (λ n. unwrap_or n 0) numbers })
+    pub numbered_all : ArePartNumbers edges part (record { count = count; of_darts = map (λ n. unwrap_or n 0) numbers })
     numbered_all =
         let size_is : length (map (λ n. unwrap_or n 0) numbers) ≡ 2 * length edges = length-map numbers (λ (n : Option ℕ). unwrap_or n 0) ∙ all.size in
         record {
@@ -199,7 +199,7 @@ module _ (edges : List EdgeRow) (us : List ℤ) (part : ℤ → List ℤ) (p : I
               ];
         }
 
-    pub numbers_are : (n : Numbers) → n.count ≡ count → n.of_darts ≡ map (λ n. unwrap_or n 0) numbers → AreNumbers edges part n
+    pub numbers_are : (n : Numbers) → n.count ≡ count → n.of_darts ≡ map (λ n. unwrap_or n 0) numbers → ArePartNumbers edges part n
     numbers_are n count_is of_darts_is =
-        subst (λ k. AreNumbers edges part (record { count = k; of_darts = n.of_darts })) (sym count_is)
-        (subst (λ v. AreNumbers edges part (record { count = count; of_darts = v })) (sym of_darts_is) numbered_all)
+        subst (λ k. ArePartNumbers edges part (record { count = k; of_darts = n.of_darts })) (sym count_is)
+        (subst (λ v. ArePartNumbers edges part (record { count = count; of_darts = v })) (sym of_darts_is) numbered_all)

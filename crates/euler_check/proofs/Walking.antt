@@ -15,7 +15,7 @@ use Rattle.rotation_check.specs.Darts.{RotationRows, IsRotation, map_of_rotation
 use Rattle.rotation_check.proofs.DartLists.{signed_there}
 use Rattle.rotation_check.proofs.EndLemmas.{one_signed_edge}
 use Rattle.rotation_check.proofs.RoundWalk.{length-signed}
-use Rattle.euler_check.specs.Marks.{number_at, AreMarked}
+use Rattle.euler_check.specs.Marks.{number_at, DartsGetNumber}
 
 -- the rows of a rotation as tables
 abbrev pub own_rows : RotationRows → Rows
@@ -111,7 +111,7 @@ module _ (r : RotationRows) (is : IsRotation r) where
   -- where the walk comes back, all have the number
   pub marking_back : (first number i dart after : ℕ) (old new : List (Option ℕ)) → length old ≡ 2 * length r.edges → i < 2 * length r.edges → IsMarking r first number (2 * length r.edges - i) dart old new
       → signed_edge r.edges after ≡ next (map_of_rotation r) (signed_edge r.edges dart) → after ≡ first
-      → AreMarked r.edges (ring (map_of_rotation r) (signed_edge r.edges first)) number old (set new dart (Some number))
+      → DartsGetNumber r.edges (ring (map_of_rotation r) (signed_edge r.edges first)) number old (set new dart (Some number))
   marking_back first number i dart after old new size lt m step back =
       let more : 2 * length r.edges - i ≡ suc (2 * length r.edges - (i + 1)) = omega arith in
       let m' = subst (λ n. IsMarking r first number n dart old new) more m in
@@ -128,7 +128,7 @@ module _ (r : RotationRows) (is : IsRotation r) where
 
   -- and after as many steps as there are darts
   pub marking_end : (first number i dart : ℕ) (old new : List (Option ℕ)) → 2 * length r.edges ≤ i → IsMarking r first number (2 * length r.edges - i) dart old new
-      → AreMarked r.edges (ring (map_of_rotation r) (signed_edge r.edges first)) number old new
+      → DartsGetNumber r.edges (ring (map_of_rotation r) (signed_edge r.edges first)) number old new
   marking_end first number i dart old new all m =
       let none : 2 * length r.edges - i ≡ 0 = omega arith in
       record {

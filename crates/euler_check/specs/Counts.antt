@@ -8,11 +8,11 @@ use Rattle.plane_model.specs.PlaneMap.{PlaneMap, origin}
 use Rattle.plane_model.specs.Component.{component, node_count, edge_count, ring_count}
 use Rattle.rotation_check.specs.Darts.{RotationRows, map_of_rotation, node_id, signed_edge}
 use Rattle.euler_check.specs.Marks.{number_at}
-use Rattle.euler_check.specs.Numbers.{Numbers, AreNumbers}
+use Rattle.euler_check.specs.Numbers.{Numbers, ArePartNumbers}
 use Rattle.euler_check.specs.declared.euler_counts.EulerCounts.{EulerCounts}
 
 -- For each label, a dart that has it, or none where none of the first k darts has it.
-pub record ArePlaces (Has : ℕ → ℕ → Type 0) (labels k : ℕ) (darts : List (Option ℕ)) : Type 0 where
+pub record AreLabelDarts (Has : ℕ → ℕ → Type 0) (labels k : ℕ) (darts : List (Option ℕ)) : Type 0 where
   pub size : length darts ≡ labels
   pub none : (x d : ℕ) → x < labels → d < k → number_at darts x ≡ None → Has x d → ⊥
   pub some : (x d : ℕ) → x < labels → number_at darts x ≡ Some d → (d < k) × Has x d
@@ -47,7 +47,7 @@ pub record AreCountsOf (r : RotationRows) (how_many : PlaneMap → List ℤ → 
 
 -- the numbers of components, and the counts of each
 pub record AreEulerCounts (c : EulerCounts) : Type 0 where
-  pub components : AreNumbers c.rotation.now.edges (component (map_of_rotation c.rotation.now)) c.components.now
+  pub components : ArePartNumbers c.rotation.now.edges (component (map_of_rotation c.rotation.now)) c.components.now
   pub nodes : AreCountsOf c.rotation.now node_count c.components.now c.nodes.items
   pub edges : AreCountsOf c.rotation.now edge_count c.components.now c.edges.items
   pub rings : AreCountsOf c.rotation.now ring_count c.components.now c.rings.items

@@ -9,13 +9,13 @@ abbrev pub number_at : List (Option ℕ) → ℕ → Option ℕ
 number_at numbers dart = slice_index_or numbers dart None
 
 -- the darts of some signed edges get a number, and no others
-pub record AreMarked (edges : List EdgeRow) (part : List ℤ) (number : ℕ) (old new : List (Option ℕ)) : Type 0 where
+pub record DartsGetNumber (edges : List EdgeRow) (part : List ℤ) (number : ℕ) (old new : List (Option ℕ)) : Type 0 where
   pub size : length new ≡ length old
   pub inside : (d : ℕ) → d < 2 * length edges → IsTrue (has_edge part (signed_edge edges d)) → number_at new d ≡ Some number
   pub outside : (d : ℕ) → d < 2 * length edges → IsFalse (has_edge part (signed_edge edges d)) → number_at new d ≡ number_at old d
 
 -- The first k darts have the numbers of their parts, and so have the others of these parts; numbers are given in the order of the first darts.
-pub record AreNumbered (edges : List EdgeRow) (part : ℤ → List ℤ) (k count : ℕ) (numbers : List (Option ℕ)) : Type 0 where
+pub record FirstAreNumbered (edges : List EdgeRow) (part : ℤ → List ℤ) (k count : ℕ) (numbers : List (Option ℕ)) : Type 0 where
   pub size : length numbers ≡ 2 * length edges
   pub few : count < k + 1
   pub below : (d x : ℕ) → d < 2 * length edges → number_at numbers d ≡ Some x → x < count

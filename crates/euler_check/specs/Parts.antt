@@ -6,7 +6,7 @@ use Rattle.plane_model.specs.Component.{component, components, is_plane}
 use Rattle.plane_model.specs.Faces.{is_labelled}
 use Rattle.plane_model.specs.Faults.{euler_fault}
 use Rattle.rotation_check.specs.Darts.{RotationRows, map_of_rotation}
-use Rattle.euler_check.specs.Numbers.{Numbers, AreNumbers}
+use Rattle.euler_check.specs.Numbers.{Numbers, ArePartNumbers}
 
 -- the numbers of the rings and of the components of darts
 pub record PartNumbers : Type 0 where
@@ -17,9 +17,9 @@ pub record PartNumbers : Type 0 where
 pub record AreParts (r : RotationRows) (p : PartNumbers) : Type 0 where
   pub labelled : IsTrue (is_labelled (map_of_rotation r))
   pub plane : IsTrue (is_plane (map_of_rotation r))
-  pub ring_numbers : AreNumbers r.edges (ring (map_of_rotation r)) p.rings
+  pub ring_numbers : ArePartNumbers r.edges (ring (map_of_rotation r)) p.rings
   pub as_many_rings : p.rings.count ≡ length (rings (map_of_rotation r))
-  pub component_numbers : AreNumbers r.edges (component (map_of_rotation r)) p.components
+  pub component_numbers : ArePartNumbers r.edges (component (map_of_rotation r)) p.components
   pub as_many_components : p.components.count ≡ length (components (map_of_rotation r))
 
 -- the first fault of rings, or else of components

@@ -4,11 +4,11 @@ ghost use Rattle.std.specs.Prelude.{◌≡◌, ℕ, ◌*◌, ◌<◌, IfOk, IsTr
 ghost use Rattle.plane_model.specs.Component.{component, components};
 ghost use Rattle.plane_model.specs.Sets.{has_edge};
 ghost use Rattle.rotation_check.specs.Darts.{IsRotation, map_of_rotation, signed_edge};
-ghost use Rattle.euler_check.specs.Marks.{AreMarked, IsReached, number_at};
-ghost use Rattle.euler_check.specs.Numbers.{AreNumbers};
+ghost use Rattle.euler_check.specs.Marks.{DartsGetNumber, IsReached, number_at};
+ghost use Rattle.euler_check.specs.Numbers.{ArePartNumbers};
 
 use crate::marks::{all_numbers, no_numbers};
-use crate::numbering::Numbering;
+use crate::numbering::PartNumbering;
 use rotation_check::{Rotation, reversed};
 use std::alloc::{AllocError, Global};
 
@@ -41,7 +41,7 @@ fn mark_component(
     requires size { length numbers.old ≡ 2 * length rotation.now.edges }
     requires first { first < 2 * length rotation.now.edges }
     requires fresh { (d : ℕ) → d < 2 * length rotation.now.edges → IsTrue (has_edge (component (map_of_rotation rotation.now) (signed_edge rotation.now.edges first)) (signed_edge rotation.now.edges d)) → number_at numbers.old d ≡ None }
-    ensures { OnOk result (AreMarked rotation.now.edges (component (map_of_rotation rotation.now) (signed_edge rotation.now.edges first)) number numbers.old numbers.new) }
+    ensures { OnOk result (DartsGetNumber rotation.now.edges (component (map_of_rotation rotation.now) (signed_edge rotation.now.edges first)) number numbers.old numbers.new) }
 {
     // darts of the component whose reverse and turn may have no number
     let mut waiting = Vec::new(alloc);
@@ -54,8 +54,8 @@ fn mark_component(
 }
 
 /// Numbers the components, from 0 by the first dart that belongs to each.
-pub fn number_components(alloc: Global, rotation: &Rotation) -> Result<Numbering, AllocError>
-    ensures numbers { IfOk result (λ numbering. AreNumbers rotation.now.edges (component (map_of_rotation rotation.now)) numbering) }
+pub fn number_components(alloc: Global, rotation: &Rotation) -> Result<PartNumbering, AllocError>
+    ensures numbers { IfOk result (λ numbering. ArePartNumbers rotation.now.edges (component (map_of_rotation rotation.now)) numbering) }
     ensures count { IfOk result (λ numbering. numbering.count ≡ length (components (map_of_rotation rotation.now))) }
 {
     let darts = 2 * rotation.edges();
@@ -67,5 +67,5 @@ pub fn number_components(alloc: Global, rotation: &Rotation) -> Result<Numbering
             count += 1;
         }
     }
-    Ok(Numbering::new(count, all_numbers(alloc, &numbers)?))
+    Ok(PartNumbering::new(count, all_numbers(alloc, &numbers)?))
 }

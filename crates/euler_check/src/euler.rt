@@ -7,13 +7,13 @@ ghost use Rattle.plane_model.specs.Faults.{not_plane};
 ghost use Rattle.plane_model.specs.PlaneMap.{ring};
 ghost use Rattle.rotation_check.specs.Checked.{Names};
 ghost use Rattle.rotation_check.specs.Darts.{map_of_rotation};
-ghost use Rattle.euler_check.specs.Numbers.{AreNumbers};
+ghost use Rattle.euler_check.specs.Numbers.{ArePartNumbers};
 ghost use Rattle.euler_check.specs.Parts.{AreParts, parts_fault};
 
 use crate::components::number_components;
 use crate::euler_counts::EulerCounts;
 use crate::labels::first_mixed_ring;
-use crate::numbering::Numbering;
+use crate::numbering::PartNumbering;
 use crate::part_numbers::Parts;
 use crate::rings::number_rings;
 use rotation_check::{CheckFault, Rotation};
@@ -24,11 +24,11 @@ use topo_base::Refusal;
 fn first_not_plane(
     alloc: Global,
     rotation: &Rotation,
-    rings: &Numbering,
-    components: &Numbering,
+    rings: &PartNumbering,
+    components: &PartNumbering,
 ) -> Result<Option<Refusal>, AllocError>
-    requires rings { AreNumbers rotation.now.edges (ring (map_of_rotation rotation.now)) rings.now }
-    requires components { AreNumbers rotation.now.edges (component (map_of_rotation rotation.now)) components.now }
+    requires rings { ArePartNumbers rotation.now.edges (ring (map_of_rotation rotation.now)) rings.now }
+    requires components { ArePartNumbers rotation.now.edges (component (map_of_rotation rotation.now)) components.now }
     ensures { IfOk result (λ fault. fault ≡ not_plane (map_of_rotation rotation.now)) }
 {
     let counts = EulerCounts::of_components(alloc, rotation, rings, components)?;

@@ -6,9 +6,9 @@ ghost use Rattle.plane_model.specs.PlaneMap.{ring};
 ghost use Rattle.rotation_check.specs.Darts.{map_of_rotation};
 ghost use Rattle.euler_check.specs.Counts.{AreCounted, AreCountsOf};
 ghost use Rattle.euler_check.specs.Marks.{number_at};
-ghost use Rattle.euler_check.specs.Numbers.{AreNumbers};
+ghost use Rattle.euler_check.specs.Numbers.{ArePartNumbers};
 
-use crate::numbering::Numbering;
+use crate::numbering::PartNumbering;
 use crate::places::{darts_of_nodes, darts_of_rings};
 use rotation_check::Rotation;
 use std::alloc::{AllocError, Global};
@@ -24,7 +24,7 @@ fn zeros(alloc: Global, parts: u32) -> Result<Vec<u32>, AllocError>
 /// How many of some darts are in each part, by its number.
 fn count_darts(
     alloc: Global,
-    parts: &Numbering,
+    parts: &PartNumbering,
     darts: &[Option<u32>],
 ) -> Result<Vec<u32>, AllocError>
     requires below { (d : ℕ) → d < length parts.now.of_darts → slice_index parts.now.of_darts d < parts.now.count }
@@ -45,9 +45,9 @@ fn count_darts(
 fn count_nodes(
     alloc: Global,
     rotation: &Rotation,
-    components: &Numbering,
+    components: &PartNumbering,
 ) -> Result<Vec<u32>, AllocError>
-    requires { AreNumbers rotation.now.edges (component (map_of_rotation rotation.now)) components.now }
+    requires { ArePartNumbers rotation.now.edges (component (map_of_rotation rotation.now)) components.now }
     ensures { IfOk result (λ counts. AreCountsOf rotation.now node_count components.now counts.items) }
 {
     let darts = darts_of_nodes(alloc, rotation)?;
@@ -58,11 +58,11 @@ fn count_nodes(
 fn count_rings(
     alloc: Global,
     rotation: &Rotation,
-    rings: &Numbering,
-    components: &Numbering,
+    rings: &PartNumbering,
+    components: &PartNumbering,
 ) -> Result<Vec<u32>, AllocError>
-    requires rings { AreNumbers rotation.now.edges (ring (map_of_rotation rotation.now)) rings.now }
-    requires components { AreNumbers rotation.now.edges (component (map_of_rotation rotation.now)) components.now }
+    requires rings { ArePartNumbers rotation.now.edges (ring (map_of_rotation rotation.now)) rings.now }
+    requires components { ArePartNumbers rotation.now.edges (component (map_of_rotation rotation.now)) components.now }
     ensures { IfOk result (λ counts. AreCountsOf rotation.now ring_count components.now counts.items) }
 {
     let darts = darts_of_rings(alloc, rotation, rings)?;
@@ -73,9 +73,9 @@ fn count_rings(
 fn count_edges(
     alloc: Global,
     rotation: &Rotation,
-    components: &Numbering,
+    components: &PartNumbering,
 ) -> Result<Vec<u32>, AllocError>
-    requires { AreNumbers rotation.now.edges (component (map_of_rotation rotation.now)) components.now }
+    requires { ArePartNumbers rotation.now.edges (component (map_of_rotation rotation.now)) components.now }
     ensures { IfOk result (λ counts. AreCountsOf rotation.now edge_count components.now counts.items) }
 {
     let mut counts = zeros(alloc, components.count())?;
@@ -89,7 +89,7 @@ fn count_edges(
 #[derive(Drop)]
 pub struct EulerCounts<'a> {
     pub rotation: &'a Rotation<'a>,
-    pub components: &'a Numbering,
+    pub components: &'a PartNumbering,
     pub nodes: Vec<u32>,
     pub edges: Vec<u32>,
     pub rings: Vec<u32>,
@@ -102,17 +102,17 @@ impl<'a> EulerCounts<'a> {
     ghost use Rattle.plane_model.specs.PlaneMap.{ring};
     ghost use Rattle.rotation_check.specs.Darts.{map_of_rotation, signed_edge};
     ghost use Rattle.euler_check.specs.Counts.{AreEulerCounts, edge_id, euler_refusal, lesser};
-    ghost use Rattle.euler_check.specs.Numbers.{AreNumbers};
+    ghost use Rattle.euler_check.specs.Numbers.{ArePartNumbers};
 
     /// The counts of each component of a rotation.
     pub fn of_components(
         alloc: Global,
         rotation: &'a Rotation<'a>,
-        rings: &Numbering,
-        components: &'a Numbering,
+        rings: &PartNumbering,
+        components: &'a PartNumbering,
     ) -> Result<Self, AllocError>
-        requires rings { AreNumbers rotation.now.edges (ring (map_of_rotation rotation.now)) rings.now }
-        requires components { AreNumbers rotation.now.edges (component (map_of_rotation rotation.now)) components.now }
+        requires rings { ArePartNumbers rotation.now.edges (ring (map_of_rotation rotation.now)) rings.now }
+        requires components { ArePartNumbers rotation.now.edges (component (map_of_rotation rotation.now)) components.now }
         ensures rotation { IfOk result (λ counts. counts.rotation.now ≡ rotation.now) }
         ensures counts { IfOk result AreEulerCounts }
     {

@@ -18,6 +18,6 @@ mod tests;
 pub use components::number_components;
 pub use euler::parts;
 pub use labels::first_mixed_ring;
-pub use numbering::Numbering;
+pub use numbering::PartNumbering;
 pub use part_numbers::Parts;
 pub use rings::number_rings;

@@ -4,12 +4,12 @@ use std::marker::Model;
 
 /// A number of each dart, from 0: darts of one part have one number, and parts are numbered by their first darts.
 #[derive(Drop)]
-pub struct Numbering {
+pub struct PartNumbering {
     count: u32,
     of_darts: Vec<u32>,
 }
 
-impl Model for Numbering {
+impl Model for PartNumbering {
     ghost use Rattle.std.specs.Prelude.{length};
     ghost use Rattle.euler_check.specs.Numbers.{Numbers};
 
@@ -18,7 +18,7 @@ impl Model for Numbering {
     ghost view = { λ n. record { count = n.count; of_darts = n.of_darts.items } };
 }
 
-impl Numbering {
+impl PartNumbering {
     ghost use Rattle.std.specs.Prelude.{◌≡◌, ◌<◌, length, slice_index};
 
     /// The numbering of so many parts, with the number of each dart.
@@ -26,7 +26,7 @@ impl Numbering {
         ensures count { result.count ≡ count }
         ensures of_darts { result.of_darts ≡ of_darts.items }
     {
-        Numbering { count, of_darts }
+        PartNumbering { count, of_darts }
     }
 
     /// How many parts there are.

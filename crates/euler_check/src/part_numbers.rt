@@ -1,13 +1,13 @@
 //! The rings and components that a rotation has.
 
-use crate::numbering::Numbering;
+use crate::numbering::PartNumbering;
 use std::marker::Model;
 
 /// The rings and the components of a rotation, each numbered from 0 by the first dart that belongs to it.
 #[derive(Drop)]
 pub struct Parts {
-    rings: Numbering,
-    components: Numbering,
+    rings: PartNumbering,
+    components: PartNumbering,
 }
 
 impl Model for Parts {
@@ -22,7 +22,7 @@ impl Parts {
     ghost use Rattle.std.specs.Prelude.{◌≡◌, ◌<◌, length, slice_index};
 
     /// The parts with these numbers.
-    pub(crate) fn new(rings: Numbering, components: Numbering) -> Self
+    pub(crate) fn new(rings: PartNumbering, components: PartNumbering) -> Self
         ensures rings { result.rings ≡ rings }
         ensures components { result.components ≡ components }
     {

@@ -3,11 +3,11 @@
 ghost use Rattle.std.specs.Prelude.{◌*◌, ◌<◌, ◌^◌, IfOk, OnOk, length};
 ghost use Rattle.plane_model.specs.PlaneMap.{ring};
 ghost use Rattle.rotation_check.specs.Darts.{IsRotation, map_of_rotation};
-ghost use Rattle.euler_check.specs.Counts.{ArePlaces, HasNumber, LeavesRow};
-ghost use Rattle.euler_check.specs.Numbers.{AreNumbers};
+ghost use Rattle.euler_check.specs.Counts.{AreLabelDarts, HasNumber, LeavesRow};
+ghost use Rattle.euler_check.specs.Numbers.{ArePartNumbers};
 
 use crate::marks::no_numbers;
-use crate::numbering::Numbering;
+use crate::numbering::PartNumbering;
 use rotation_check::Rotation;
 use std::alloc::{AllocError, Global};
 
@@ -15,10 +15,10 @@ use std::alloc::{AllocError, Global};
 pub fn darts_of_rings(
     alloc: Global,
     rotation: &Rotation,
-    rings: &Numbering,
+    rings: &PartNumbering,
 ) -> Result<Vec<Option<u32>>, AllocError>
-    requires { AreNumbers rotation.now.edges (ring (map_of_rotation rotation.now)) rings.now }
-    ensures places { IfOk result (λ darts. ArePlaces (HasNumber rings.now) rings.now.count (2 * length rotation.now.edges) darts.items) }
+    requires { ArePartNumbers rotation.now.edges (ring (map_of_rotation rotation.now)) rings.now }
+    ensures places { IfOk result (λ darts. AreLabelDarts (HasNumber rings.now) rings.now.count (2 * length rotation.now.edges) darts.items) }
     ensures few { IfOk result (λ darts. length darts.items < 2 ^ 32) }
     ensures rotation { OnOk result (IsRotation rotation.now) }
 {
@@ -31,7 +31,7 @@ pub fn darts_of_rings(
 
 /// A dart that leaves each node, by the node's row; none leaves an isolated node.
 pub fn darts_of_nodes(alloc: Global, rotation: &Rotation) -> Result<Vec<Option<u32>>, AllocError>
-    ensures places { IfOk result (λ darts. ArePlaces (LeavesRow rotation.now) (length rotation.now.nodes) (2 * length rotation.now.edges) darts.items) }
+    ensures places { IfOk result (λ darts. AreLabelDarts (LeavesRow rotation.now) (length rotation.now.nodes) (2 * length rotation.now.edges) darts.items) }
     ensures few { IfOk result (λ darts. length darts.items < 2 ^ 32) }
     ensures rotation { OnOk result (IsRotation rotation.now) }
 {

@@ -3,11 +3,11 @@
 ghost use Rattle.std.specs.Prelude.{◌≡◌, ◌*◌, ◌<◌, IfOk, length};
 ghost use Rattle.plane_model.specs.PlaneMap.{ring, rings};
 ghost use Rattle.rotation_check.specs.Darts.{map_of_rotation, signed_edge};
-ghost use Rattle.euler_check.specs.Marks.{AreMarked, AreNumbered};
-ghost use Rattle.euler_check.specs.Numbers.{AreNumbers};
+ghost use Rattle.euler_check.specs.Marks.{DartsGetNumber, FirstAreNumbered};
+ghost use Rattle.euler_check.specs.Numbers.{ArePartNumbers};
 
 use crate::marks::{all_numbers, no_numbers};
-use crate::numbering::Numbering;
+use crate::numbering::PartNumbering;
 use rotation_check::Rotation;
 use std::alloc::{AllocError, Global};
 
@@ -15,7 +15,7 @@ use std::alloc::{AllocError, Global};
 fn mark_ring(rotation: &Rotation, first: u32, number: u32, numbers: &mut [Option<u32>])
     requires size { length numbers.old ≡ 2 * length rotation.now.edges }
     requires first { first < 2 * length rotation.now.edges }
-    ensures { AreMarked rotation.now.edges (ring (map_of_rotation rotation.now) (signed_edge rotation.now.edges first)) number numbers.old numbers.new }
+    ensures { DartsGetNumber rotation.now.edges (ring (map_of_rotation rotation.now) (signed_edge rotation.now.edges first)) number numbers.old numbers.new }
 {
     let mut dart = first;
     for _ in 0..2 * rotation.edges() {
@@ -28,8 +28,8 @@ fn mark_ring(rotation: &Rotation, first: u32, number: u32, numbers: &mut [Option
 }
 
 /// Numbers the rings, from 0 by the first dart that belongs to each.
-pub fn number_rings(alloc: Global, rotation: &Rotation) -> Result<Numbering, AllocError>
-    ensures numbers { IfOk result (λ numbering. AreNumbers rotation.now.edges (ring (map_of_rotation rotation.now)) numbering) }
+pub fn number_rings(alloc: Global, rotation: &Rotation) -> Result<PartNumbering, AllocError>
+    ensures numbers { IfOk result (λ numbering. ArePartNumbers rotation.now.edges (ring (map_of_rotation rotation.now)) numbering) }
     ensures count { IfOk result (λ numbering. numbering.count ≡ length (rings (map_of_rotation rotation.now))) }
 {
     let darts = 2 * rotation.edges();
@@ -41,5 +41,5 @@ pub fn number_rings(alloc: Global, rotation: &Rotation) -> Result<Numbering, All
             count += 1;
         }
     }
-    Ok(Numbering::new(count, all_numbers(alloc, &numbers)?))
+    Ok(PartNumbering::new(count, all_numbers(alloc, &numbers)?))
 }

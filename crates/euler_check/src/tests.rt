@@ -3,7 +3,7 @@
 ghost use Rattle.std.specs.Prelude.{◌≡◌, ◌*◌, length};
 ghost use Rattle.euler_check.specs.Parts.{AreParts};
 
-use crate::{Numbering, Parts, first_mixed_ring, number_components, number_rings, parts};
+use crate::{PartNumbering, Parts, first_mixed_ring, number_components, number_rings, parts};
 use plane_model::Tables;
 use rotation_check::{CheckFault, Rotation, check};
 use std::alloc::{AllocError, Global};
@@ -35,7 +35,7 @@ fn checked<'a>(
 fn numbers(
     alloc: Global,
     rotation: &Rotation,
-    numbering: &Numbering,
+    numbering: &PartNumbering,
 ) -> Result<Vec<u32>, AllocError>
     requires { length numbering.now.of_darts ≡ 2 * length rotation.now.edges }
 {

@@ -13,8 +13,8 @@ use Rattle.plane_model.specs.Rotation.{is_face, has_faces, is_face_or_none, node
 use Rattle.plane_model.specs.Faces.{is_placed, is_outer, outer_rings}
 use Rattle.plane_model.specs.Lists.{holes, shell, ring_if_some, face_edges, adjacent}
 use Rattle.plane_model.proofs.SetLaws.{same_edges, same_is, same_self}
-use Rattle.plane_model.proofs.Sums.{into_flat, from_flat}
 use Rattle.plane_model.proofs.RotationOrbits.{reverse-reverse, signed-reverse}
+use Rattle.plane_model.proofs.Sums.{into_flat, from_flat}
 use Rattle.placement_laws.specs.Placing.{IsLabelledRotation, IsPlacing}
 use Rattle.placement_laws.proofs.Parts.{HasParts, parts_of, ring_name, ring_name-on, ring_name-same, ring_name-there, ring_alike, ring_within, ring_side, rings-signed}
 use Rattle.placement_laws.proofs.Placed.{placing_of}

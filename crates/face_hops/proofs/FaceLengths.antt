@@ -12,8 +12,8 @@ use Rattle.plane_model.specs.Faces.{is_placed, is_outer}
 use Rattle.plane_model.specs.Lists.{holes, shell, ring_if_some, face_edges}
 use Rattle.plane_model.proofs.SetLaws.{same_edges, same_self}
 use Rattle.plane_model.proofs.RotationOrbits.{next_permutes}
-use Rattle.placement_laws.specs.Placing.{IsLabelledRotation}
 use Rattle.plane_model.proofs.Sums.{from_flat}
+use Rattle.placement_laws.specs.Placing.{IsLabelledRotation}
 use Rattle.placement_laws.proofs.Parts.{HasParts, parts_of, ring_name, ring_name-same, ring_alike, rings-one, rings-signed, rings-apart}
 use Rattle.face_hops.specs.Prices.{along}
 use Rattle.face_hops.proofs.Beside.{found, of_face}

@@ -39,13 +39,13 @@ first_up p (suc n) k l here before = elim (cases_lt n k) [
 ]
 
 -- what it says that a number is the first
-pub record IsFirst (p : ℕ → Bool) (n k : ℕ) : Type 0 where
+pub record IsLeastUpTo (p : ℕ → Bool) (n k : ℕ) : Type 0 where
   pub low : k ≤ n
   pub here : p k ≡ true
   pub before : (j : ℕ) → j < k → p j ≡ false
 
 -- the least number up to n that passes, if one does
-pub least_up : (p : ℕ → Bool) (n : ℕ) → ((k : ℕ) × IsFirst p n k) ⊎ ((j : ℕ) → j ≤ n → p j ≡ false)
+pub least_up : (p : ℕ → Bool) (n : ℕ) → ((k : ℕ) × IsLeastUpTo p n k) ⊎ ((j : ℕ) → j ≤ n → p j ≡ false)
 least_up p zero = elim (cases_Bool (p 0)) [
   | inl e ↦ inl (0, record { low = omega arith; here = e; before = λ j l. absurd (omega (arith, l)) })
   | inr e ↦ inr (λ j l. let is : j ≡ 0 = omega (arith, l) in subst (λ x. p x ≡ false) (sym is) e)
@@ -112,11 +112,11 @@ pub distance_none : (m : PlaneMap) (f g : ℕ) → ((j : ℕ) → is_within j m 
 distance_none m f g none = none_up (λ n. is_within n m f g) (length m.faces + 1) (λ j l. none j)
 
 -- a distance that is some has a path of so many moves, and none of fewer
-pub distance_first : (m : PlaneMap) (f g k : ℕ) → distance m f g ≡ Some k → IsFirst (λ n. is_within n m f g) (length m.faces + 1) k
+pub distance_first : (m : PlaneMap) (f g k : ℕ) → distance m f g ≡ Some k → IsLeastUpTo (λ n. is_within n m f g) (length m.faces + 1) k
 distance_first m f g k e = elim (least_up (λ n. is_within n m f g) (length m.faces + 1)) [
   | inl j ↦
       let is : Some k ≡ Some j.0 = sym e ∙ distance_is m f g j.0 j.1.low j.1.here j.1.before in
       let same : k ≡ j.0 = cc in
-      subst (λ x. IsFirst (λ n. is_within n m f g) (length m.faces + 1) x) (sym same) j.1
+      subst (λ x. IsLeastUpTo (λ n. is_within n m f g) (length m.faces + 1) x) (sym same) j.1
   | inr none ↦ let no : Some k ≡ None = sym e ∙ none_up (λ n. is_within n m f g) (length m.faces + 1) none in cc
 ]

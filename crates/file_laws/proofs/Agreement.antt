@@ -9,7 +9,6 @@ use Rattle.plane_model.specs.PlaneMap.{map_of, signed_edges, next as next_edge, 
 use Rattle.code_laws.specs.Code.{Code, is_tree, mate, positions, after, next, turn}
 use Rattle.code_laws.specs.Numbers.{edge_of}
 use Rattle.code_laws.specs.Laws.{MateLaws}
-use Rattle.rank_select.proofs.Selects.{cases_kind}
 use Rattle.code_laws.proofs.Places.{over_other, over_mate}
 use Rattle.code_laws.proofs.Edges.{one_edge, edge_there}
 use Rattle.id_names.specs.Names.{number_of, is_names}
@@ -22,6 +21,7 @@ use Rattle.file_laws.specs.MapOfFile.{signed_at, is_forward_at, edge_row, rows_o
 use Rattle.file_laws.specs.Agreement.{Agrees}
 use Rattle.plane_model.proofs.Sorting.{rising-has}
 use Rattle.plane_model.proofs.SetLaws.{same_is, same_self}
+use Rattle.rank_select.proofs.Selects.{cases_kind}
 use Rattle.file_laws.proofs.Lists.{has-index, index-has, has-positions}
 use Rattle.file_laws.proofs.Bridge.{IsSeen, signed, signed-id, has-rising, e_in, law, forward_mate, forward_is, reversed, origins, sides, nexts}
 

@@ -4,7 +4,7 @@ use Rattle.std.proofs.Common.{◌≡◌, ℕ, zero, suc, ◌⊎◌, inl, inr, �
 use Rattle.std.proofs.lemmas.Bool.{eqb-true, cases_Bool, le-leb, both_ways, or_cases}
 use Rattle.plane_model.specs.Sets.{or_else}
 use Rattle.bit_words.specs.Words.{words_in}
-use Rattle.code_laws.specs.SeqFault.{first_some}
+use Rattle.bit_words.specs.Lists.{first_some}
 use Rattle.file_laws.specs.Layout.{counts_in, words_of, file_words, header_words}
 use Rattle.file_laws.specs.Faults.{front_fault, digest_fault, count_fault, unless, magic, wanted_words}
 use Rattle.file_laws.specs.Lawful.{first_fault, is_lawful, content_fault}

@@ -19,7 +19,7 @@ use Rattle.placement_laws.proofs.Parts.{HasParts, parts_of, ring_name-there, rin
 use Rattle.placement_laws.proofs.Accepted.{placed_of, outer_of}
 use Rattle.bit_words.proofs.Finds.{least-find}
 use Rattle.code_laws.specs.Code.{place, is_first, component_of, component_count as code_components, start_of}
-use Rattle.code_laws.specs.Numbers.{edge_of, ring_of, is_shell, tree_edges, first_of_edge, first_of_shell, shell_or_outer, pair_round}
+use Rattle.code_laws.specs.Numbers.{edge_of, ring_of, is_shell, tree_edges, first_of_edge, first_of_shell, shell_or_outer, enclosing_pair}
 use Rattle.code_laws.specs.declared.ring_number.RingNumber.{RingNumber}
 use Rattle.code_laws.specs.declared.ring_number.RingNumber.TheVariants.{Outer, Shell}
 use Rattle.code_laws.proofs.Steps.{none_at}
@@ -250,7 +250,7 @@ module _ (c : Contents) (w : WholeParts c) where
       rings-one m parts q r h k on'
 
   -- the pair of a shell opens in the component of the shell
-  opens_at : (p s : ℕ) → p < length c.code.a → pair_round c.code false p ≡ Some s → (o : ℕ) × (first_of_edge c.code (tree_edges c.code + s) ≡ Some o) × (o < length c.code.a) × (component_of c.code o ≡ component_of c.code p)
+  opens_at : (p s : ℕ) → p < length c.code.a → enclosing_pair c.code false p ≡ Some s → (o : ℕ) × (first_of_edge c.code (tree_edges c.code + s) ≡ Some o) × (o < length c.code.a) × (component_of c.code o ≡ component_of c.code p)
   opens_at p s l e =
       let o = round_at c.code w.seen.sound false p s l e in
       let r = o.1 in
@@ -258,11 +258,11 @@ module _ (c : Contents) (w : WholeParts c) where
       let first : is_first c.code o.0 ≡ true = first_at c.code false o.0 (place c.code false o.0) r.kind_of refl ∙ r.opens in
       (o.0, subst (λ x. first_of_edge c.code x ≡ Some o.0) edge (first_edge c.code w.seen.sound o.0 r.within first), r.within, r.component)
 
-  shell_number : (p s : ℕ) → ring_of c.code p ≡ Shell s → pair_round c.code false p ≡ Some s
+  shell_number : (p s : ℕ) → ring_of c.code p ≡ Shell s → enclosing_pair c.code false p ≡ Some s
   unfolding ring_of
-  shell_number p s e = of (pair_round c.code false p) refl e
+  shell_number p s e = of (enclosing_pair c.code false p) refl e
     where
-      of : (o : Option ℕ) → pair_round c.code false p ≡ o → shell_or_outer c.code p o ≡ Shell s → pair_round c.code false p ≡ Some s
+      of : (o : Option ℕ) → enclosing_pair c.code false p ≡ o → shell_or_outer c.code p o ≡ Shell s → enclosing_pair c.code false p ≡ Some s
       of None h e = cc
       of (Some x) h e = let same : x ≡ s = cc in h ∙ ap Some same
 

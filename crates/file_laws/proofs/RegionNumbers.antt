@@ -10,7 +10,7 @@ use Rattle.bit_words.specs.Bits.{rank}
 use Rattle.code_laws.proofs.Edges.{half}
 use Rattle.id_names.proofs.NumberLaws.{number_of-at}
 use Rattle.region_tree.specs.Nesting.{region_at}
-use Rattle.region_tree.specs.Numbering.{AreNumbered}
+use Rattle.region_tree.specs.Numbering.{RegionsAreNumbered}
 use Rattle.region_tree.proofs.Stacks.{balanced_all}
 use Rattle.file_laws.specs.Contents.{Contents}
 use Rattle.file_laws.specs.MapOfFile.{face_at_place, place_of_face, member_row, rows_of_contents}
@@ -29,7 +29,7 @@ module _ (c : Contents) (w : WholeParts c) where
   abbrev m : PlaneMap
   m = map_of (rows_of_contents c)
 
-  pub numbered : AreNumbered m c.region_bits c.regions
+  pub numbered : RegionsAreNumbered m c.region_bits c.regions
   numbered =
       record {
         balanced = balanced_all c.region_bits w.regions_nest;
@@ -78,7 +78,7 @@ module _ (c : Contents) (w : WholeParts c) where
       ∙ ap (λ p. option_map (λ (r : MemberRow). r.region) (find (λ (r : MemberRow). r.face == face) (member_row c face p))) (place_back place l)
       ∙ one_at face place
 
-pub numbered_of : (c : Contents) → IsTrue (is_whole c) → AreNumbered (map_of (rows_of_contents c)) c.region_bits c.regions
+pub numbered_of : (c : Contents) → IsTrue (is_whole c) → RegionsAreNumbered (map_of (rows_of_contents c)) c.region_bits c.regions
 numbered_of c h = numbered c (whole_parts c h)
 
 pub member_of : (c : Contents) → IsTrue (is_whole c) → (place : ℕ) → place ≤ length c.faces → (map_of (rows_of_contents c)).members.at (face_at_place c place) ≡ option_map (slice_index c.regions) (region_at c.members place)

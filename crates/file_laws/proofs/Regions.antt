@@ -14,8 +14,8 @@ use Rattle.plane_model.specs.InRange.{is_id, is_face_id, is_none_or}
 use Rattle.plane_model.specs.Regions.{parent, upward, parents, is_region, is_region_or_none, is_region_forest}
 use Rattle.plane_model.proofs.Sorting.{rising-has}
 use Rattle.bit_words.specs.Bits.{rank, select}
-use Rattle.parens.specs.Matching.{is_open, close_of, is_from, is_round, innermost}
 use Rattle.rank_select.proofs.Selects.{select-placed}
+use Rattle.parens.specs.Matching.{is_open, close_of, is_from, is_enclosing, innermost}
 use Rattle.parens.proofs.Greatest.{greatest-find}
 use Rattle.code_laws.proofs.Apart.{fewer}
 use Rattle.code_laws.proofs.Edges.{half}
@@ -145,7 +145,7 @@ module _ (c : Contents) (w : WholeParts c) where
   unfolding innermost
   lower_at x p y l e None i h = cc
   lower_at x p y l e (Some k) i h =
-      let g = greatest-find (is_round c.region_bits p) p k i in
+      let g = greatest-find (is_enclosing c.region_bits p) p k i in
       let opens = (and_parts (is_open c.region_bits k) (is_from p (close_of c.region_bits k)) g.passes).0 in
       let less = fewer c.region_bits w.regions_nest k p g.below l opens in
       let same : rank true c.region_bits k ≡ y = cc in

@@ -21,7 +21,7 @@ use Rattle.bit_words.specs.Bits.{rank}
 use Rattle.bit_words.proofs.Ranks.{rank_both}
 use Rattle.bit_words.proofs.Finds.{least-find}
 use Rattle.code_laws.specs.Code.{next, step_back, component_of}
-use Rattle.code_laws.specs.Numbers.{edge_of, node_of, ring_of, node_count, pair_round, shell_or_outer, first_of_node}
+use Rattle.code_laws.specs.Numbers.{edge_of, node_of, ring_of, node_count, enclosing_pair, shell_or_outer, first_of_node}
 use Rattle.code_laws.specs.declared.ring_number.RingNumber.TheVariants.{Outer, Shell}
 use Rattle.code_laws.proofs.Sound.{whole, in_one}
 use Rattle.code_laws.proofs.Edges.{closed}
@@ -57,7 +57,7 @@ some_there (x ∷ ds) d h = omega arith
 -- what ring a position has: the outer ring of its component, or the shell of a face
 pub data RingAt (c : Contents) (p : ℕ) : Type 0 where
   IsOuter : (j : ℕ) → j < component_count c → ring_of c.code p ≡ Outer j → component_of c.code p ≡ j → RingAt c p
-  IsShell : (s : ℕ) → s < length c.faces → ring_of c.code p ≡ Shell s → pair_round c.code false p ≡ Some s → RingAt c p
+  IsShell : (s : ℕ) → s < length c.faces → ring_of c.code p ≡ Shell s → enclosing_pair c.code false p ≡ Some s → RingAt c p
 
 module _ (c : Contents) (w : WholeParts c) where
   abbrev m : PlaneMap
@@ -79,7 +79,7 @@ module _ (c : Contents) (w : WholeParts c) where
       let rd = rank_both c.code.dual (length c.code.dual) (omega arith) in
       omega (arith, s, zp, zf, ct, cd, rt, rd)
 
-  ring_at_of : (p : ℕ) → p < length c.code.a → (o : Option ℕ) → pair_round c.code false p ≡ o → RingAt c p
+  ring_at_of : (p : ℕ) → p < length c.code.a → (o : Option ℕ) → enclosing_pair c.code false p ≡ o → RingAt c p
   unfolding ring_of
   ring_at_of p l None e =
       let i = in_one c.code w.seen.sound p l in
@@ -91,7 +91,7 @@ module _ (c : Contents) (w : WholeParts c) where
       IsShell s (omega (arith, b, f)) (ap (shell_or_outer c.code p) e) e
 
   pub ring_at : (p : ℕ) → p < length c.code.a → RingAt c p
-  ring_at p l = ring_at_of p l (pair_round c.code false p) refl
+  ring_at p l = ring_at_of p l (enclosing_pair c.code false p) refl
 
   -- ids of rows
   node_ids : map (λ (r : NodeRow). r.id) (rows_of_contents c).nodes ≡ rising c.nodes

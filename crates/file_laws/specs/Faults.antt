@@ -4,12 +4,12 @@ use Rattle.std.specs.List.{range_with_len, list_all}
 use Rattle.sha2.specs.Sha256.{sha256}
 use Rattle.topo_base.specs.SignedEdge.{comes_before}
 use Rattle.bit_words.specs.WrongEntry.{first_wrong}
+use Rattle.bit_words.specs.Lists.{first_some}
 use Rattle.rank_select.specs.Counts.{counts_of}
 use Rattle.min_max_tree.specs.Tree.{nodes_of}
 use Rattle.parens.specs.Matching.{balance_fault}
 use Rattle.code_laws.specs.Code.{Code, positions, start_of}
 use Rattle.code_laws.specs.Numbers.{ring_of, is_outer, first_of_edge, tree_edges}
-use Rattle.code_laws.specs.SeqFault.{first_some}
 use Rattle.id_names.specs.Faults.{name_fault}
 use Rattle.id_names.specs.declared.fault.NameFault.{NameFault}
 use Rattle.id_names.specs.declared.fault.NameFault.TheVariants.{HighCounts, Ones, Rising, MarkCounts, MarkOnes, Order}

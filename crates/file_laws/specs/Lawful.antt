@@ -5,9 +5,10 @@ use Rattle.topo_base.specs.declared.id.TheConstants.{LARGEST_ID}
 use Rattle.plane_model.specs.Rows.{Rows}
 use Rattle.plane_model.specs.PlaneMap.{Same}
 use Rattle.plane_model.specs.Sets.{or_else}
+use Rattle.bit_words.specs.Lists.{first_some}
 use Rattle.parens.specs.Matching.{balance_fault}
 use Rattle.code_laws.specs.Numbers.{tree_edges}
-use Rattle.code_laws.specs.SeqFault.{seq_fault, first_some, is_sound}
+use Rattle.code_laws.specs.SeqFault.{seq_fault, is_sound}
 use Rattle.id_names.specs.Names.{is_names}
 use Rattle.file_laws.specs.Layout.{HeaderCounts, counts_in, words_of, id_bits}
 use Rattle.file_laws.specs.Contents.{Contents, component_count}

@@ -15,7 +15,7 @@ ghost use Rattle.file_laws.specs.Layout.{HeaderCounts, counts_in, words_of, head
 ghost use Rattle.file_laws.specs.Contents.{Contents};
 ghost use Rattle.file_laws.specs.Held.{contents_of};
 ghost use Rattle.region_tree.specs.Nesting.{region_at};
-ghost use Rattle.region_tree.specs.Numbering.{AreNumbered};
+ghost use Rattle.region_tree.specs.Numbering.{RegionsAreNumbered};
 ghost use Rattle.file_laws.specs.MapOfFile.{signed_at, face_at_place, rows_of_contents};
 ghost use Rattle.file_laws.specs.Lawful.{is_lawful, is_whole, has_room_for, map_of_file, file_size};
 ghost use Rattle.file_laws.specs.Agreement.{Agrees, starts_of};
@@ -96,6 +96,6 @@ pub fn whole_counts()
 /// The regions of whole contents give the regions and members of their map back: each region has one number and its
 /// parent is the region of the innermost pair round it, and the face at a place is in the region that stands there.
 pub fn regions_by_number()
-    ensures numbered { (c : Contents) → IsTrue (is_whole c) → AreNumbered (map_of (rows_of_contents c)) c.region_bits c.regions }
+    ensures numbered { (c : Contents) → IsTrue (is_whole c) → RegionsAreNumbered (map_of (rows_of_contents c)) c.region_bits c.regions }
     ensures members { (c : Contents) → IsTrue (is_whole c) → (place : ℕ) → place ≤ length c.faces → (map_of (rows_of_contents c)).members.at (face_at_place c place) ≡ option_map (slice_index c.regions) (region_at c.members place) }
 {}

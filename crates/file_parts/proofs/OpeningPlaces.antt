@@ -13,7 +13,7 @@ use Rattle.min_max_tree.proofs.Falls.{excess-ranks}
 use Rattle.parens.specs.Matching.{is_open, innermost}
 use Rattle.parens.proofs.Balances.{IsBalanced}
 use Rattle.parens.proofs.Arcs.{IsLastAt, last_at, excess-zero, open_where_up}
-use Rattle.parens.proofs.Rounds.{last-innermost}
+use Rattle.parens.proofs.Enclosing.{last-innermost}
 use Rattle.code_laws.proofs.Apart.{fewer}
 use Rattle.code_laws.proofs.Edges.{closed}
 use Rattle.region_tree.specs.Nesting.{opening, parent_number}

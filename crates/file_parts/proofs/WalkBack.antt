@@ -2,10 +2,10 @@
 use Rattle.std.proofs.Common.{◌≡◌, ℕ, ◌<◌, ◌+◌, Bool, true, false, List, [], ◌∷◌, ◌++◌, take, length, get_or, ap, sym, ◌∙◌, arith}
 use Rattle.std.proofs.lemmas.List.{ext_get_or}
 use Rattle.std.proofs.lemmas.List.FromFn.{length-map-range_with_len, get_or-map-range_with_len}
+use Rattle.rank_select.proofs.Selects.{select-placed}
 use Rattle.code_laws.specs.Code.{Code, code_with, is_first, parens, component_count}
 use Rattle.code_laws.specs.SeqFault.{is_sound}
 use Rattle.code_laws.specs.Tour.{picked, code_of}
-use Rattle.rank_select.proofs.Selects.{select-placed}
 use Rattle.code_laws.proofs.Sound.{SoundParts, sound_parts, all_places, last_start}
 use Rattle.code_laws.proofs.Mates.{first_at}
 use Rattle.code_laws.proofs.Walked.{picked-at, length-picked}

@@ -8,7 +8,7 @@ use Rattle.std.proofs.lemmas.Nat.{div-add-mod', mod-mul-add, mod_below}
 use Rattle.bit_words.specs.Bits.{rank}
 use Rattle.orbits.specs.Points.{has}
 use Rattle.orbits.proofs.Numbers.{place_in}
-use Rattle.id_names.specs.Cycles.{ArePlaces, cycle, least_member, mark_at, marks_of, marked, back_pointers}
+use Rattle.id_names.specs.Cycles.{IsPlacePermutation, cycle, least_member, mark_at, marks_of, marked, back_pointers}
 use Rattle.id_names.specs.Inverse.{stride, walk, back_from, number_at}
 use Rattle.id_names.proofs.Members.{members_of}
 use Rattle.id_names.proofs.Pointers.{stride_some, length-marks, mark_is, value_at}
@@ -96,7 +96,7 @@ next_multiple s a some =
 multiple_mod : (s v : ℕ) → 1 ≤ s → (v * s) % s ≡ 0
 multiple_mod s v some = let z : v * s + 0 ≡ v * s = omega arith in ap (λ x. x % s) (sym z) ∙ mod-mul-add v s 0 some
 
-module _ (places : List ℕ) (are : ArePlaces places) (first : ℕ) (within : first < length places) (least : (y : ℕ) → has (λ x y. x == y) (cycle places first) y ≡ true → first ≤ y) (s : ℕ) (some : 1 ≤ s) (i : ℕ) (i_in : i < length (cycle places first)) where
+module _ (places : List ℕ) (are : IsPlacePermutation places) (first : ℕ) (within : first < length places) (least : (y : ℕ) → has (λ x y. x == y) (cycle places first) y ≡ true → first ≤ y) (s : ℕ) (some : 1 ≤ s) (i : ℕ) (i_in : i < length (cycle places first)) where
   abbrev xs : List ℕ
   xs = cycle places first
 
@@ -256,7 +256,7 @@ module _ (places : List ℕ) (are : ArePlaces places) (first : ℕ) (within : fi
       ]
 
 -- and so it does from the place of each number
-pub comes_back : (places : List ℕ) → ArePlaces places → (k : ℕ) → k < length places → number_at places (marked places (stride (length places))) (back_pointers places (stride (length places))) (get_or places k 0) ≡ Some k
+pub comes_back : (places : List ℕ) → IsPlacePermutation places → (k : ℕ) → k < length places → number_at places (marked places (stride (length places))) (back_pointers places (stride (length places))) (get_or places k 0) ≡ Some k
 comes_back places are k h =
     let s = stride (length places) in
     let first = least_member places k in

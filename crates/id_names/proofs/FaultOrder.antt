@@ -6,13 +6,14 @@ use Rattle.std.proofs.lemmas.List.{same_lists, get_or_default}
 use Rattle.bit_words.specs.Bits.{rank}
 use Rattle.bit_words.specs.WrongEntry.{IsFirstWrong}
 use Rattle.bit_words.specs.declared.wrong_entry.WrongEntry.{WrongEntry}
+use Rattle.bit_words.specs.Lists.{first_some}
 use Rattle.bit_words.proofs.Finds.{find-least, find-none, least-find, none-find}
 use Rattle.rank_select.specs.Counts.{blocks, counts_of}
 use Rattle.rank_select.proofs.CountLaws.{length-counts_of}
 use Rattle.id_names.specs.Rising.{rising_at}
 use Rattle.id_names.specs.Inverse as inverse
 use Rattle.id_names.specs.RisingNames.{RisingNames, count, bound_of, id_bound, id_at, number_at}
-use Rattle.id_names.specs.Faults.{wrong_count, other_ones, is_rising, is_ordered, first_failing, first_some, name_fault}
+use Rattle.id_names.specs.Faults.{wrong_count, other_ones, is_rising, is_ordered, first_failing, name_fault}
 use Rattle.id_names.specs.declared.fault.NameFault.{NameFault}
 use Rattle.id_names.specs.declared.fault.NameFault.TheVariants.{HighCounts, Ones, Rising, MarkCounts, MarkOnes, Order}
 

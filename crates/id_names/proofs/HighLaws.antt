@@ -10,9 +10,9 @@ use Rattle.std.proofs.lemmas.Grind.{flat_map-append}
 use Rattle.std.proofs.lemmas.Nat.{shr_split, shr_below}
 use Rattle.bit_words.specs.Bits.{rank, select, same}
 use Rattle.bit_words.specs.Digits.{digits}
+use Rattle.rank_select.proofs.Selects.{selected}
 use Rattle.id_names.specs.Making.{bucket, high_bits, low_parts}
 use Rattle.id_names.specs.Rising.{high_part, rising_at, zeros_at}
-use Rattle.rank_select.proofs.Selects.{selected}
 use Rattle.id_names.proofs.Counting.{count_yes, count_no}
 use Rattle.id_names.proofs.DigitBounds.{power_few}
 use Rattle.id_names.proofs.HighBits.{range_more, quotient_rises}

@@ -4,8 +4,8 @@ use Rattle.std.proofs.Common.{◌≡◌, ℕ, ◌+◌, ◌-◌, ◌<◌, ◌≤�
 use Rattle.std.proofs.lemmas.Bool.{cases_lt}
 use Rattle.bit_words.specs.Bits.{rank, IsSelected}
 use Rattle.bit_words.proofs.Ranks.{rank_both, rank-le-rank, rank_more_yes, rank_more_no}
-use Rattle.id_names.specs.Rising.{zeros_at, high_part}
 use Rattle.rank_select.proofs.Selects.{select-placed, selected}
+use Rattle.id_names.specs.Rising.{zeros_at, high_part}
 
 -- a one, whose zeros before it are the high part
 pub record IsHigh (high : List Bool) (j p : ℕ) : Type 0 where

@@ -4,11 +4,11 @@ use Rattle.std.proofs.Common.{◌≡◌, ℕ, ◌-◌, ◌%◌, ◌^◌, ◌<◌
 use Rattle.std.proofs.lemmas.List.{get_or-map, same_lists, get_or_default}
 use Rattle.std.proofs.lemmas.List.FromFn.{length-map-range_with_len, get_or-map-range_with_len}
 use Rattle.bit_words.specs.Bits.{rank}
-use Rattle.bit_words.specs.Lists.{tabulate}
+use Rattle.bit_words.specs.Lists.{tabulate, first_some}
 use Rattle.bit_words.proofs.Finds.{find-none}
 use Rattle.rank_select.specs.Counts.{counts_of}
 use Rattle.id_names.specs.Cycles.{marked, back_pointers}
-use Rattle.id_names.specs.Faults.{wrong_count, other_ones, is_rising, is_ordered, first_failing, first_some, name_fault}
+use Rattle.id_names.specs.Faults.{wrong_count, other_ones, is_rising, is_ordered, first_failing, name_fault}
 use Rattle.id_names.specs.Inverse.{stride}
 use Rattle.id_names.specs.Making.{made, rising, low_parts, high_bits, places_of}
 use Rattle.id_names.specs.Names.{AreDistinctIds}

@@ -6,7 +6,7 @@ use Rattle.std.proofs.lemmas.List.{get_or-set_same, get_or-set_other}
 use Rattle.std.proofs.lemmas.Nat.{div-add-mod', div-mul-add, mod_below}
 use Rattle.orbits.specs.Points.{has}
 use Rattle.orbits.proofs.Numbers.{has_place}
-use Rattle.id_names.specs.Cycles.{AreMarked, mark_at}
+use Rattle.id_names.specs.Cycles.{HavePointers, mark_at}
 use Rattle.id_names.proofs.Members.{AreMembers}
 
 -- a multiple of the stride, the one before it, and a number that is none
@@ -123,7 +123,7 @@ module _ (places : List ℕ) (stride first : ℕ) (members : List ℕ) (m : AreM
 
   -- at the end the first one gets the last mark
   pub are_marked : (i at last : ℕ) (old new : List (Option ℕ)) → length old ≡ length places → IsMarking stride members first i at last old new → i ≡ length members → stride < length members
-      → AreMarked stride members old (set new first (Some last))
+      → HavePointers stride members old (set new first (Some last))
   unfolding mark_at
   are_marked i at last old new size k all long =
       let begins = m.begins in
@@ -147,7 +147,7 @@ module _ (places : List ℕ) (stride first : ℕ) (members : List ℕ) (m : AreM
       }
 
 -- a cycle of few members has no mark
-pub none_marked : (stride : ℕ) (members : List ℕ) (marks : List (Option ℕ)) → ((i : ℕ) → i < length members → get_or marks (get_or members i 0) None ≡ None) → length members ≤ stride → AreMarked stride members marks marks
+pub none_marked : (stride : ℕ) (members : List ℕ) (marks : List (Option ℕ)) → ((i : ℕ) → i < length members → get_or marks (get_or members i 0) None ≡ None) → length members ≤ stride → HavePointers stride members marks marks
 unfolding mark_at
 none_marked stride members marks fresh few = record {
   size = refl;

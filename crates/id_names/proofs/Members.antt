@@ -8,7 +8,7 @@ use Rattle.orbits.specs.Points.{has, is_distinct}
 use Rattle.orbits.specs.Walks.{until_return, returns, Permutes}
 use Rattle.orbits.proofs.Orbits.{orbit_returns, orbit_inside, orbit_apart}
 use Rattle.orbits.proofs.Numbers.{same_numbers, in_range, from_range, has_place}
-use Rattle.id_names.specs.Cycles.{ArePlaces, cycle}
+use Rattle.id_names.specs.Cycles.{IsPlacePermutation, cycle}
 
 -- numbers that follow one another by a step, from one on until the step comes to another
 record Walks (step : ℕ → ℕ) (from to most : ℕ) (xs : List ℕ) : Type 0 where
@@ -76,7 +76,7 @@ pub record AreMembers (places : List ℕ) (first : ℕ) (members : List ℕ) : T
   pub ends : (i : ℕ) → i + 1 ≡ length members → get_or places (get_or members i 0) 0 ≡ first
   pub once : (i j : ℕ) → i < length members → j < length members → get_or members i 0 ≡ get_or members j 0 → i ≡ j
 
-module _ (places : List ℕ) (are : ArePlaces places) where
+module _ (places : List ℕ) (are : IsPlacePermutation places) where
   pub permutes : Permutes (λ x. IsTrue (has (λ (x y : ℕ). x == y) (range_with_len 0 (length places)) x)) (λ k. get_or places k 0)
   permutes = record {
     stays = λ x h. (let r = from_range 0 (length places) x h in in_range 0 (length places) (get_or places x 0) (omega arith) (let b = are.below x (omega (arith, r.1)) in omega arith));

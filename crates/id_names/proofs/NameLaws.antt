@@ -7,10 +7,11 @@ use Rattle.std.proofs.lemmas.List.{get_or_default}
 use Rattle.std.proofs.lemmas.Map.Keys.{IsDistinct-from_apart, IsDistinct-cons}
 use Rattle.std.proofs.lemmas.Map.Steps.{length-le_from_distinct_below}
 use Rattle.std.proofs.lemmas.Map.Views.{Contains-from_any}
+use Rattle.bit_words.specs.Lists.{first_some}
 use Rattle.bit_words.proofs.BitLists.{length-tabulate, get_or-tabulate}
 use Rattle.id_names.specs.Names.{AreDistinctIds}
 use Rattle.id_names.specs.RisingNames.{RisingNames, count, id_bound, id_at, number_at, ids_by_number}
-use Rattle.id_names.specs.Faults.{wrong_count, other_ones, is_rising, is_ordered, first_failing, first_some, name_fault}
+use Rattle.id_names.specs.Faults.{wrong_count, other_ones, is_rising, is_ordered, first_failing, name_fault}
 use Rattle.id_names.specs.declared.fault.NameFault.TheVariants.{HighCounts, Ones, Rising, MarkCounts, MarkOnes, Order}
 use Rattle.id_names.proofs.FaultLaws.{none_failing, IsRising, rising_parts, IsOrdered, ordered_parts}
 

@@ -12,7 +12,7 @@ use Rattle.bit_words.specs.Bits.{same}
 use Rattle.bit_words.specs.Digits.{digits}
 use Rattle.bit_words.specs.Lists.{tabulate}
 use Rattle.bit_words.proofs.DigitLaws.{digits-pow}
-use Rattle.id_names.specs.Cycles.{ArePlaces, cycle, least_member, mark_at, mark_of, marks_of, marked, back_pointers}
+use Rattle.id_names.specs.Cycles.{IsPlacePermutation, cycle, least_member, mark_at, mark_of, marks_of, marked, back_pointers}
 use Rattle.id_names.specs.Making.{place_width}
 use Rattle.id_names.specs.Inverse.{stride}
 use Rattle.id_names.proofs.Counting.{count_yes, count_no}
@@ -36,7 +36,7 @@ place_fits c x h =
     let p : 2 ^ digits c ≤ 2 ^ place_width c = pow-le-pow_right two wide in
     omega (arith, below_power c)
 
-pub places_fit : (places : List ℕ) → ArePlaces places → All (λ x. x < 2 ^ place_width (length places)) places
+pub places_fit : (places : List ℕ) → IsPlacePermutation places → All (λ x. x < 2 ^ place_width (length places)) places
 places_fit places are = All-from_get_or (λ x. x < 2 ^ place_width (length places)) places 0 (λ k h. place_fits (length places) (get_or places k 0) (are.below k h))
 
 -- the values of some options
@@ -81,7 +81,7 @@ value_is : (b : Bool) (v x : ℕ) → cond b (Some v) None ≡ Some x → v ≡ 
 value_is true v x e = cc
 value_is false v x e = cc
 
-module _ (places : List ℕ) (are : ArePlaces places) (s : ℕ) (some : 1 ≤ s) where
+module _ (places : List ℕ) (are : IsPlacePermutation places) (s : ℕ) (some : 1 ≤ s) where
   pub length-marks : length (marks_of places s) ≡ length places
   unfolding tabulate
   length-marks = length-map-range_with_len (mark_of places s) 0 (length places)

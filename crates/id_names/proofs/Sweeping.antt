@@ -10,7 +10,7 @@ use Rattle.bit_words.specs.Lists.{tabulate}
 use Rattle.orbits.specs.Points.{has}
 use Rattle.orbits.proofs.Orbits.{orbit_own, orbit_inside, orbit_back, orbit_same}
 use Rattle.orbits.proofs.Numbers.{same_numbers, from_range, has_place, place_in}
-use Rattle.id_names.specs.Cycles.{ArePlaces, AreVisited, AreMarked, cycle, least_member, mark_at, mark_of, marks_of}
+use Rattle.id_names.specs.Cycles.{IsPlacePermutation, AreVisited, HavePointers, cycle, least_member, mark_at, mark_of, marks_of}
 use Rattle.id_names.proofs.Members.{AreMembers, members_of, permutes, number_there}
 
 -- the least of some numbers
@@ -42,7 +42,7 @@ pub record IsSwept (places : List ℕ) (stride k : ℕ) (visited : List Bool) (m
   pub right : (x : ℕ) → x < length places → get_or visited x false ≡ true → get_or marks x None ≡ mark_of places stride x
   pub fresh : (x : ℕ) → x < length places → get_or visited x false ≡ false → get_or marks x None ≡ None
 
-module _ (places : List ℕ) (are : ArePlaces places) (stride : ℕ) where
+module _ (places : List ℕ) (are : IsPlacePermutation places) (stride : ℕ) where
   pub own : (k : ℕ) → k < length places → has (λ x y. x == y) (cycle places k) k ≡ true
   own k h = orbit_own same_numbers (range_with_len 0 (length places)) (λ k. get_or places k 0) k (number_there places are k h)
 
@@ -111,7 +111,7 @@ module _ (places : List ℕ) (are : ArePlaces places) (stride : ℕ) where
         let y = get_or (cycle places k) i 0 in
         s.fresh y (inside k y within on) (members_unvisited y on)
 
-    module _ (visited' : List Bool) (marks' : List (Option ℕ)) (v : AreVisited (cycle places k) visited visited') (m : AreMarked stride (cycle places k) marks marks') where
+    module _ (visited' : List Bool) (marks' : List (Option ℕ)) (v : AreVisited (cycle places k) visited visited') (m : HavePointers stride (cycle places k) marks marks') where
       now_visited : (x : ℕ) → has (λ x y. x == y) (cycle places k) x ≡ true → get_or visited' x false ≡ true
       now_visited x on = let p = place_in (cycle places k) x on in subst (λ z. get_or visited' z false ≡ true) p.2 (v.inside p.0 p.1)
 

@@ -6,7 +6,7 @@ use Rattle.orbits.specs.Points.{has}
 use Rattle.bit_words.specs.Lists.{tabulate}
 
 -- each number has a place below their count, and no two have one place
-pub record ArePlaces (places : List ℕ) : Type 0 where
+pub record IsPlacePermutation (places : List ℕ) : Type 0 where
   pub below : (k : ℕ) → k < length places → slice_index places k < length places
   pub one : (j k : ℕ) → j < length places → k < length places → slice_index places j ≡ slice_index places k → j ≡ k
 
@@ -51,7 +51,7 @@ pub record AreVisited (members : List ℕ) (old new : List Bool) : Type 0 where
   pub outside : (x : ℕ) → x < length old → has (λ x y. x == y) members x ≡ false → slice_index_or new x false ≡ slice_index_or old x false
 
 -- the members of a cycle have their pointers, and the others what they had
-pub record AreMarked (stride : ℕ) (members : List ℕ) (old new : List (Option ℕ)) : Type 0 where
+pub record HavePointers (stride : ℕ) (members : List ℕ) (old new : List (Option ℕ)) : Type 0 where
   pub size : length new ≡ length old
   pub inside : (i : ℕ) → i < length members → slice_index_or new (slice_index members i) None ≡ mark_at stride members i
   pub outside : (x : ℕ) → x < length old → has (λ x y. x == y) members x ≡ false → slice_index_or new x None ≡ slice_index_or old x None

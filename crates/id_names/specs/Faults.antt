@@ -1,7 +1,7 @@
 -- The first thing that is wrong with the parts of names.
 use Rattle.std.specs.Prelude.{ℕ, ◌-◌, ◌==◌, Bool, true, not, ◌&&◌, nat_lt, if◌then◌else◌, List, [], ◌∷◌, length, find, slice_index, Option, Some, None, option_map}
 use Rattle.std.specs.List.{range_with_len}
-use Rattle.bit_words.specs.Lists.{is_at}
+use Rattle.bit_words.specs.Lists.{is_at, first_some}
 use Rattle.bit_words.specs.Bits.{rank}
 use Rattle.rank_select.specs.Counts.{counts_of}
 use Rattle.id_names.specs.Names.{is_id}
@@ -28,12 +28,6 @@ is_ordered places number k = nat_lt (slice_index places k) (length places) && is
 -- the first number up to the count that fails a test
 abbrev pub first_failing : (ℕ → Bool) → ℕ → Option ℕ
 first_failing test n = find (λ j. not (test j)) (range_with_len 0 n)
-
--- the first of some faults
-unfoldable pub first_some : {X : Type 0} → List (Option X) → Option X
-first_some [] = None
-first_some (None ∷ faults) = first_some faults
-first_some (Some x ∷ faults) = Some x
 
 -- the first fault of parts with these directories of `high` and `marks`
 unfoldable pub name_fault : RisingNames → List ℕ → List ℕ → Option NameFault

@@ -1,14 +1,14 @@
 //! The cycles of a permutation: in long ones every so many members are marked, with a pointer back.
 
 ghost use Rattle.std.specs.Prelude.{◌≡◌, ℕ, ◌<◌, ◌≤◌, IfOk, None, length, slice_index, slice_index_or};
-ghost use Rattle.id_names.specs.Cycles.{ArePlaces, AreMarked, AreVisited, cycle, marks_of};
+ghost use Rattle.id_names.specs.Cycles.{IsPlacePermutation, HavePointers, AreVisited, cycle, marks_of};
 
 use std::alloc::{AllocError, Global};
 
 /// Visits the members of a cycle and gives how many there are.
 fn visit(places: &[u32], first: u32, visited: &mut [bool]) -> u32
     requires few { length places.now ≤ 16777216 }
-    requires places { ArePlaces places.now }
+    requires places { IsPlacePermutation places.now }
     requires first { first < length places.now }
     requires size { length visited.old ≡ length places.now }
     ensures count { result ≡ length (cycle places.now first) }
@@ -27,14 +27,14 @@ fn visit(places: &[u32], first: u32, visited: &mut [bool]) -> u32
 
 /// Marks a cycle of so many members that has no mark yet.
 fn mark(places: &[u32], stride: u32, first: u32, count: u32, marks: &mut [Option<u32>])
-    requires places { ArePlaces places.now }
+    requires places { IsPlacePermutation places.now }
     requires first { first < length places.now }
     requires some { 1 ≤ stride }
     requires long { stride < count }
     requires count { count ≡ length (cycle places.now first) }
     requires size { length marks.old ≡ length places.now }
     requires fresh { (i : ℕ) → i < length (cycle places.now first) → slice_index_or marks.old (slice_index (cycle places.now first) i) None ≡ None }
-    ensures { AreMarked stride (cycle places.now first) marks.old marks.new }
+    ensures { HavePointers stride (cycle places.now first) marks.old marks.new }
 {
     let mut last = first;
     let mut member = first;
@@ -57,14 +57,14 @@ fn visit_and_mark(
     marks: &mut [Option<u32>],
 )
     requires few { length places.now ≤ 16777216 }
-    requires places { ArePlaces places.now }
+    requires places { IsPlacePermutation places.now }
     requires first { first < length places.now }
     requires some { 1 ≤ stride }
     requires visited { length visited.old ≡ length places.now }
     requires size { length marks.old ≡ length places.now }
     requires fresh { (i : ℕ) → i < length (cycle places.now first) → slice_index_or marks.old (slice_index (cycle places.now first) i) None ≡ None }
     ensures visited { AreVisited (cycle places.now first) visited.old visited.new }
-    ensures marks { AreMarked stride (cycle places.now first) marks.old marks.new }
+    ensures marks { HavePointers stride (cycle places.now first) marks.old marks.new }
 {
     let count = visit(places, first, visited);
     if count > stride {
@@ -79,7 +79,7 @@ pub(crate) fn cycle_marks(
     stride: u32,
 ) -> Result<Vec<Option<u32>>, AllocError>
     requires few { length places.now ≤ 16777216 }
-    requires places { ArePlaces places.now }
+    requires places { IsPlacePermutation places.now }
     requires some { 1 ≤ stride }
     ensures { IfOk result (λ marks. marks.items ≡ marks_of places.now stride) }
 {

@@ -3,7 +3,7 @@
 ghost use Rattle.std.specs.Prelude.{ℕ, ◌≡◌, ◌<◌, ◌≤◌, ◌+◌, ◌^◌, List, [], ◌∷◌, length, slice_index, true, false, Some, None};
 ghost use Rattle.bit_words.specs.Bits.{rank};
 ghost use Rattle.bit_words.specs.Digits.{digits};
-ghost use Rattle.id_names.specs.Cycles.{ArePlaces, marks_of, marked, back_pointers};
+ghost use Rattle.id_names.specs.Cycles.{IsPlacePermutation, marks_of, marked, back_pointers};
 ghost use Rattle.id_names.specs.Inverse.{stride, number_at};
 ghost use Rattle.id_names.specs.Making.{made, places_of, rising, high_bits};
 
@@ -18,7 +18,7 @@ pub fn sizes_of_made()
 
 /// In a permutation whose long cycles are marked, the walk from the place of each number comes to it.
 pub fn walks_in_cycles()
-    ensures { (places : List ℕ) → ArePlaces places → (k : ℕ) → k < length places → number_at places (marked places (stride (length places))) (back_pointers places (stride (length places))) (slice_index places k) ≡ Some k }
+    ensures { (places : List ℕ) → IsPlacePermutation places → (k : ℕ) → k < length places → number_at places (marked places (stride (length places))) (back_pointers places (stride (length places))) (slice_index places k) ≡ Some k }
 {}
 
 /// What is made of a few ids, by hand.

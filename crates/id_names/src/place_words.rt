@@ -3,7 +3,7 @@
 ghost use Rattle.std.specs.Prelude.{◌≡◌, ◌≤◌, map, filter_map, length, IfOk, is_some};
 ghost use Rattle.bit_words.specs.Bits.{HoldsBits};
 ghost use Rattle.rank_select.specs.Counts.{counts_of};
-ghost use Rattle.id_names.specs.Cycles.{ArePlaces, marked, back_pointers};
+ghost use Rattle.id_names.specs.Cycles.{IsPlacePermutation, marked, back_pointers};
 ghost use Rattle.id_names.specs.Inverse.{stride};
 ghost use Rattle.id_names.specs.Making.{place_width, HoldsFields};
 
@@ -49,7 +49,7 @@ fn some_pointers(alloc: Global, pointers: &[Option<u32>]) -> Result<Vec<u32>, Al
 /// The words of the places and of their inverse.
 pub(crate) fn place_words(alloc: Global, places: &[u32]) -> Result<PlaceWords, Memory>
     requires few { length places.now ≤ 16777216 }
-    requires places { ArePlaces places.now }
+    requires places { IsPlacePermutation places.now }
     ensures places { IfOk result (λ words. HoldsFields words.places.items (place_width (length places.now)) places.now) }
     ensures marks { IfOk result (λ words. HoldsBits words.marks.items (marked places.now (stride (length places.now)))) }
     ensures mark_counts { IfOk result (λ words. HoldsFields words.mark_counts.items 32 (counts_of (marked places.now (stride (length places.now))))) }

@@ -6,7 +6,7 @@ ghost use Rattle.bit_words.specs.Digits.{digits};
 ghost use Rattle.rank_select.specs.Counts.{counts_of};
 ghost use Rattle.id_names.specs.Making.{high_bits, low_parts, HoldsFields};
 ghost use Rattle.id_names.specs.Names.{AreDistinct};
-ghost use Rattle.id_names.specs.Numbered.{entry_ids, AreSorted, ArePushed};
+ghost use Rattle.id_names.specs.Numbered.{entry_ids, AreSortedNames, ArePushed};
 
 use crate::inverse::binary_digits;
 use crate::sorted::Named;
@@ -53,7 +53,7 @@ fn high_parts(
 ) -> Result<BitMaker, Memory>
     requires few { length ids.now ≤ 16777216 }
     requires distinct { AreDistinct ids.now }
-    requires sorted { AreSorted ids.now entries.now }
+    requires sorted { AreSortedNames ids.now entries.now }
     requires some { 1 ≤ low }
     requires narrow { digits (length ids.now) + low ≤ 63 }
     ensures { IfOk result (λ bits. bits ≡ high_bits low ids.now) }
@@ -90,7 +90,7 @@ pub(crate) fn rising_words(
 ) -> Result<RisingWords, Memory>
     requires few { length ids.now ≤ 16777216 }
     requires distinct { AreDistinct ids.now }
-    requires sorted { AreSorted ids.now entries.now }
+    requires sorted { AreSortedNames ids.now entries.now }
     requires some { 1 ≤ low }
     requires narrow { digits (length ids.now) + low ≤ 63 }
     ensures high { IfOk result (λ words. HoldsBits words.high.items (high_bits low ids.now)) }

@@ -4,7 +4,7 @@ use Rattle.std.specs.Prelude.{slice_index, slice_index_or, slice_set}
 use Rattle.std.proofs.lemmas.Bool.{cases_Bool, both_ways}
 use Rattle.plane_model.specs.Sets.{has}
 use Rattle.islands.specs.Lists.{AreLists, listed}
-use Rattle.islands.specs.Rounds.{AreEntered, AreAllEntered, AreMarked, AreNextFaces, IsBeside}
+use Rattle.islands.specs.Rounds.{AreEntered, AreAllEntered, KeysAreMarked, AreNextFaces, IsBeside}
 use Rattle.islands.proofs.Members.{has_front}
 use Rattle.islands.proofs.Opening.{last_has, has_last, set_on, set_stays, set_only, set_length}
 
@@ -49,11 +49,11 @@ opens_begin faces components old =
       opened = λ k h on. absurd (both_ways _ h on);
     }
 
-pub marked_begin : (key : ℕ → ℕ) (old : List Bool) → AreMarked key [] old old
+pub marked_begin : (key : ℕ → ℕ) (old : List Bool) → KeysAreMarked key [] old old
 marked_begin key old = record { same = refl; stays = λ k h. h; marks = λ i h. absurd (both_ways false refl h); only = λ k on off. absurd (both_ways _ off on) }
 
 -- a component that was not marked
-pub marked_push : (key : ℕ → ℕ) (now : List ℕ) (old new : List Bool) (s : ℕ) → AreMarked key now old new → key s < length new → AreMarked key (now ++ s ∷ []) old (slice_set new (key s) true)
+pub marked_push : (key : ℕ → ℕ) (now : List ℕ) (old new : List Bool) (s : ℕ) → KeysAreMarked key now old new → key s < length new → KeysAreMarked key (now ++ s ∷ []) old (slice_set new (key s) true)
 marked_push key now old new s m below =
     record {
       same = set_length new (key s) ∙ m.same;
@@ -69,7 +69,7 @@ marked_push key now old new s m below =
     }
 
 -- one that was
-pub marked_skip : (key : ℕ → ℕ) (now : List ℕ) (old new : List Bool) (s : ℕ) → AreMarked key now old new → slice_index_or new (key s) false ≡ true → AreMarked key (now ++ s ∷ []) old new
+pub marked_skip : (key : ℕ → ℕ) (now : List ℕ) (old new : List Bool) (s : ℕ) → KeysAreMarked key now old new → slice_index_or new (key s) false ≡ true → KeysAreMarked key (now ++ s ∷ []) old new
 marked_skip key now old new s m on =
     record {
       same = m.same;
@@ -115,7 +115,7 @@ next_faces faces components now old new next o =
       complete = λ i j on below e off. o.opened (slice_index faces j) off (o.all j (below, (i, on, e)));
     }
 
-pub next_marked : (faces : List ℕ) (P : ℕ → Type 0) (old new : List Bool) (next : List ℕ) → AreEntered faces P old new [] next → AreMarked (λ f. f) next old new
+pub next_marked : (faces : List ℕ) (P : ℕ → Type 0) (old new : List Bool) (next : List ℕ) → AreEntered faces P old new [] next → KeysAreMarked (λ f. f) next old new
 next_marked faces P old new next o =
     record {
       same = o.same;

@@ -21,8 +21,8 @@ use Rattle.placement_laws.proofs.Parts.{HasParts, parts_of, component_within, co
 use Rattle.placement_laws.proofs.Tables.{rise_of}
 use Rattle.placement_laws.proofs.EachRound.{place_begin, place_round, place_end}
 use Rattle.islands.proofs.Members.{has_front, has_back, has_either, named, to_name, numbered, to_number, at, at_in, in_at, ring_in}
-use Rattle.islands.specs.Numbered.{ring_at, AreNumbered, AreBelow}
-use Rattle.islands.specs.Rounds.{AreIncreasing, AreRoundRings, AreNextFaces, AreMarked}
+use Rattle.islands.specs.Numbered.{ring_at, AreRingNumbers, AreBelow}
+use Rattle.islands.specs.Rounds.{AreIncreasing, AreRoundRings, AreNextFaces, KeysAreMarked}
 use Rattle.islands.specs.Starts.{AreOuterRings}
 
 pub at_order : (xs : List ℤ) → is_rising_edges xs ≡ true → (i j : ℕ) → i < j → j < length xs → comes_before (at xs i) (at xs j) ≡ true
@@ -49,7 +49,7 @@ pub record AreReached (components starts : List ℕ) (reached : List Bool) : Typ
   pub from : (c : ℕ) → slice_index_or reached c false ≡ true → (s : ℕ) × (has starts s ≡ true) × (slice_index components s ≡ c)
   pub to : (s : ℕ) → has starts s ≡ true → slice_index_or reached (slice_index components s) false ≡ true
 
-round_is : (m : PlaneMap) → is_rising_edges (rings m) ≡ true → (id : ℕ → ℕ) (faces components : List ℕ) (count : ℕ) → AreNumbered m id faces components count → ((i : ℕ) → i < length faces → slice_index faces i < count)
+round_is : (m : PlaneMap) → is_rising_edges (rings m) ≡ true → (id : ℕ → ℕ) (faces components : List ℕ) (count : ℕ) → AreRingNumbers m id faces components count → ((i : ℕ) → i < length faces → slice_index faces i < count)
     → (front starts : List ℕ) (reached : List Bool) (now : List ℕ) → ((f : ℕ) → has front f ≡ true → f < count) → ((s : ℕ) → has starts s ≡ true → s < length faces) → AreReached components starts reached → AreRoundRings faces components front reached now
     → round_starts m (map id front) (map (ring_at m) starts) ≡ map (ring_at m) now
 round_is m up id faces components count n face_below front starts reached now front_below starts_below ties these =
@@ -90,7 +90,7 @@ round_is m up id faces components count n face_below front starts reached now fr
 abbrev name_of : PlaneMap → ℤ → ℤ
 name_of m d = smallest d (ring m d)
 
-next_is : (m : PlaneMap) → HasParts m → (id : ℕ → ℕ) (faces components : List ℕ) (count : ℕ) → AreNumbered m id faces components count → ((i : ℕ) → i < length faces → slice_index faces i < count)
+next_is : (m : PlaneMap) → HasParts m → (id : ℕ → ℕ) (faces components : List ℕ) (count : ℕ) → AreRingNumbers m id faces components count → ((i : ℕ) → i < length faces → slice_index faces i < count)
     → (old now : List ℕ) (entered : List Bool) (next : List ℕ) → ((f : ℕ) → has old f ≡ true → f < count) → ((i : ℕ) → has now i ≡ true → i < length faces)
     → ((f : ℕ) → slice_index_or entered f false ≡ true → has old f ≡ true) → ((f : ℕ) → has old f ≡ true → slice_index_or entered f false ≡ true) → AreNextFaces faces components now entered next
     → IsNextFront m (map id old) (map (ring_at m) now) (map id next)
@@ -147,10 +147,10 @@ pub record AreSoFar (faces components : List ℕ) (count : ℕ) (front starts : 
   pub ties : AreReached components starts reached
   pub from : (f : ℕ) → slice_index_or entered f false ≡ true → has (front ++ before) f ≡ true
   pub to : (f : ℕ) → has (front ++ before) f ≡ true → slice_index_or entered f false ≡ true
-  pub placed : (t : Rows) (id : ℕ → ℕ) → IsLabelledRotation t → AreNumbered (map_of t) id faces components count → (left : ℕ) × IsPlacedSoFar (map_of t) left (map id front) (map id before) (map (ring_at (map_of t)) starts)
+  pub placed : (t : Rows) (id : ℕ → ℕ) → IsLabelledRotation t → AreRingNumbers (map_of t) id faces components count → (left : ℕ) × IsPlacedSoFar (map_of t) left (map id front) (map id before) (map (ring_at (map_of t)) starts)
 
 pub step : (faces components : List ℕ) (count component_count : ℕ) → AreBelow faces components count component_count → (front starts : List ℕ) (reached entered : List Bool) → AreSoFar faces components count front starts reached entered
-    → (now next : List ℕ) (reached' entered' : List Bool) → AreRoundRings faces components front reached now → AreNextFaces faces components now entered next → AreMarked (slice_index components) now reached reached' → AreMarked (λ f. f) next entered entered'
+    → (now next : List ℕ) (reached' entered' : List Bool) → AreRoundRings faces components front reached now → AreNextFaces faces components now entered next → KeysAreMarked (slice_index components) now reached reached' → KeysAreMarked (λ f. f) next entered entered'
     → AreSoFar faces components count next (starts ++ now) reached' entered'
 step faces components count component_count below front starts reached entered so_far now next reached' entered' these nexts marked opened =
     let now_below : (i : ℕ) → has now i ≡ true → i < length faces = λ i on. (these.sound i on).0 in

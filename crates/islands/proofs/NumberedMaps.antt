@@ -17,7 +17,7 @@ use Rattle.plane_model.specs.Orders.{is_strictly_rising}
 use Rattle.plane_model.proofs.Alone.{rotation-alone, labelled-alone, rings-alone, component-alone, components-alone}
 use Rattle.rotation_check.specs.Darts.{RotationRows, IsRotation, map_of_rotation, signed_edge}
 use Rattle.rotation_check.proofs.DartLists.{signed_there, number_of-signed, dart_edges, length-dart_edges}
-use Rattle.euler_check.specs.Numbers.{Numbers, AreNumbers}
+use Rattle.euler_check.specs.Numbers.{Numbers, ArePartNumbers}
 use Rattle.placement_laws.specs.Placing.{IsLabelledRotation}
 use Rattle.islands.specs.declared.numbers.NumberedMap.{NumberedMap}
 use Rattle.islands.specs.Darts.{AreDartsOf}
@@ -44,7 +44,7 @@ side_there r faces of_faces dart h =
     let m = map_with_faces r faces in
     among same_edges (λ d. is_face m (side m d)) (signed_edges m) (signed_edge r.edges dart) of_faces.there (signed_there (rows_with_faces r faces) dart h)
 
-pub numbers_with_faces : (r : RotationRows) (faces : List FaceRow) (numbers : Numbers) → AreNumbers r.edges (component (map_of_rotation r)) numbers → AreNumbers r.edges (component (map_with_faces r faces)) numbers
+pub numbers_with_faces : (r : RotationRows) (faces : List FaceRow) (numbers : Numbers) → ArePartNumbers r.edges (component (map_of_rotation r)) numbers → ArePartNumbers r.edges (component (map_with_faces r faces)) numbers
 numbers_with_faces r faces numbers are =
     let t = rows_with_faces r faces in
     record {
@@ -78,7 +78,7 @@ few_rings r faces =
     let all : length (signed_edges m) ≡ 2 * length r.edges = sym (ap length (all_filtered (signed_edges m))) ∙ number_of-signed (λ d. true) (rows_with_faces r faces) ∙ ap length (all_filtered (dart_edges r.edges)) ∙ length-dart_edges r.edges in
     omega arith
 
-module _ (r : RotationRows) (faces : List FaceRow) (numbers : Numbers) (n : NumberedMap) (is : IsRotation r) (labelled : is_labelled (map_of_rotation r) ≡ true) (of_faces : AreFacesOf r faces) (are : AreNumbers r.edges (component (map_of_rotation r)) numbers) (ring_darts : AreDartsOf r.edges (rings (map_of_rotation r)) n.rings.items)
+module _ (r : RotationRows) (faces : List FaceRow) (numbers : Numbers) (n : NumberedMap) (is : IsRotation r) (labelled : is_labelled (map_of_rotation r) ≡ true) (of_faces : AreFacesOf r faces) (are : ArePartNumbers r.edges (component (map_of_rotation r)) numbers) (ring_darts : AreDartsOf r.edges (rings (map_of_rotation r)) n.rings.items)
     (component_darts : AreDartsOf r.edges (components (map_of_rotation r)) n.components.items) (ids : n.face_ids.items ≡ 0 ∷ rising (other_ids faces)) (many : length n.face_of.items ≡ length n.rings.items)
     (below : (k : ℕ) → k < length n.face_of.items → slice_index n.face_of.items k < length n.face_ids.items) (sides : (k : ℕ) → k < length n.face_of.items → slice_index n.face_ids.items (slice_index n.face_of.items k) ≡ side (map_of_rotation r) (signed_edge r.edges (slice_index n.rings.items k)))
     (their : n.component_of.items ≡ map (slice_index numbers.of_darts) n.rings.items) where

@@ -3,7 +3,7 @@ use Rattle.std.proofs.Common.{◌≡◌, ℕ, zero, suc, ◌+◌, ◌*◌, ◌<�
 use Rattle.std.specs.Prelude.{slice_index_or, min}
 use Rattle.std.proofs.lemmas.Bool.{or_left, both_ways}
 use Rattle.plane_model.specs.Sets.{has}
-use Rattle.islands.specs.Rounds.{AreMarked, AreNextFaces}
+use Rattle.islands.specs.Rounds.{KeysAreMarked, AreNextFaces}
 
 abbrev pub open_count : List Bool → ℕ
 open_count [] = 0
@@ -34,7 +34,7 @@ one_less_open (false ∷ old) (false ∷ new) same stays (suc k) h on = let more
 abbrev pub work_left : List Bool → List ℕ → ℕ
 work_left entered front = 2 * open_count entered + min 1 (length front)
 
-pub falls : (faces components now next : List ℕ) (front : List ℕ) (entered entered' : List Bool) → 0 < length front → AreNextFaces faces components now entered next → AreMarked (λ f. f) next entered entered' → work_left entered' next < work_left entered front
+pub falls : (faces components now next : List ℕ) (front : List ℕ) (entered entered' : List Bool) → 0 < length front → AreNextFaces faces components now entered next → KeysAreMarked (λ f. f) next entered entered' → work_left entered' next < work_left entered front
 falls faces components now [] front entered entered' some nexts opened = let le = no_more_open entered entered' opened.same opened.stays in omega arith
 falls faces components now (f ∷ next) front entered entered' some nexts opened =
     let here : has (f ∷ next) f ≡ true = or_left (f == f) _ (eq-eqb f f refl) in

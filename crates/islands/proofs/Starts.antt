@@ -10,7 +10,7 @@ use Rattle.plane_model.specs.PlaneMap.{PlaneMap, signed_edges}
 use Rattle.plane_model.specs.Component.{component}
 use Rattle.plane_model.specs.Faces.{is_reached, outer_rings}
 use Rattle.placement_laws.proofs.Parts.{HasParts, component_sub, component_sym, rings-signed}
-use Rattle.islands.specs.Numbered.{AreNumbered, ring_at}
+use Rattle.islands.specs.Numbered.{AreRingNumbers, ring_at}
 use Rattle.islands.proofs.Members.{named, to_name, ring_in, any_edge}
 
 some_has : (p : ℕ → Bool) (xs : List ℕ) → list_any p xs ≡ true → (x : ℕ) × (has xs x ≡ true) × (p x ≡ true)
@@ -27,7 +27,7 @@ has_some p (y ∷ xs) x h k = elim (or_cases (x == y) (has xs x) h) [
   | inr more ↦ or_right (p y) _ (has_some p xs x more k)
 ]
 
-pub reached_of_starts : (m : PlaneMap) → HasParts m → (id : ℕ → ℕ) (faces components : List ℕ) (count : ℕ) → AreNumbered m id faces components count → (starts : List ℕ) → ((s : ℕ) → has starts s ≡ true → s < length faces) → map (ring_at m) starts ≡ outer_rings m
+pub reached_of_starts : (m : PlaneMap) → HasParts m → (id : ℕ → ℕ) (faces components : List ℕ) (count : ℕ) → AreRingNumbers m id faces components count → (starts : List ℕ) → ((s : ℕ) → has starts s ≡ true → s < length faces) → map (ring_at m) starts ≡ outer_rings m
     → (i : ℕ) (d : ℤ) → i < length faces → has_edge (component m (ring_at m i)) d ≡ true → is_reached m d ≡ list_any (λ s. slice_index components s == slice_index components i) starts
 reached_of_starts m g id faces components count n starts below e i d lt on =
     let many = n.faces_many in

@@ -9,7 +9,7 @@ abbrev pub ring_at : PlaneMap → ℕ → ℤ
 ring_at m i = unwrap_or (slice_get (rings m) i) (pos 0)
 
 -- the faces and components of the rings, by numbers; faces have the numbers below the count, and face 0 has number 0
-pub record AreNumbered (m : PlaneMap) (id : ℕ → ℕ) (faces components : List ℕ) (face_count : ℕ) : Type 0 where
+pub record AreRingNumbers (m : PlaneMap) (id : ℕ → ℕ) (faces components : List ℕ) (face_count : ℕ) : Type 0 where
   pub faces_many : length faces ≡ length (rings m)
   pub components_many : length components ≡ length (rings m)
   pub first : id 0 ≡ 0

@@ -25,7 +25,7 @@ pub record AreNextFaces (faces components now : List ℕ) (entered : List Bool) 
   pub complete : (i j : ℕ) → IsTrue (has now i) → j < length faces → slice_index components j ≡ slice_index components i → is_marked entered (slice_index faces j) ≡ false → IsTrue (has next (slice_index faces j))
 
 -- what is marked after these were: what was marked before, and the keys of these
-pub record AreMarked (key : ℕ → ℕ) (now : List ℕ) (old new : List Bool) : Type 0 where
+pub record KeysAreMarked (key : ℕ → ℕ) (now : List ℕ) (old new : List Bool) : Type 0 where
   pub same : length new ≡ length old
   pub stays : (k : ℕ) → is_marked old k ≡ true → is_marked new k ≡ true
   pub marks : (i : ℕ) → IsTrue (has now i) → is_marked new (key i) ≡ true

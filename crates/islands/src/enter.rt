@@ -3,7 +3,7 @@
 ghost use Rattle.std.specs.Prelude.{◌≡◌, ◌<◌, ◌^◌, ◌++◌, ℕ, Bool, false, List, IsTrue, IfOk, OnOk, length, map, slice_index, slice_index_or};
 ghost use Rattle.plane_model.specs.Sets.{has};
 ghost use Rattle.islands.specs.Lists.{AreLists, listed};
-ghost use Rattle.islands.specs.Rounds.{AreNextFaces, AreMarked, AreAllEntered};
+ghost use Rattle.islands.specs.Rounds.{AreNextFaces, KeysAreMarked, AreAllEntered};
 
 use std::alloc::{AllocError, Global};
 
@@ -46,8 +46,8 @@ pub fn enter(
     requires lists { AreLists components.now (map (λ v. v.items) in_component.now) }
     requires fresh { (i : ℕ) → IsTrue (has now.now i) → slice_index_or reached.old.items (slice_index components.now i) false ≡ false }
     ensures next { IfOk result (λ next. AreNextFaces faces.now components.now now.now entered.old.items next.items) }
-    ensures reached { IfOk result (λ next. AreMarked (slice_index components.now) now.now reached.old.items reached.new.items) }
-    ensures entered { IfOk result (λ next. AreMarked (λ f. f) next.items entered.old.items entered.new.items) }
+    ensures reached { IfOk result (λ next. KeysAreMarked (slice_index components.now) now.now reached.old.items reached.new.items) }
+    ensures entered { IfOk result (λ next. KeysAreMarked (λ f. f) next.items entered.old.items entered.new.items) }
 {
     let mut next: Vec<u32> = Vec::new(alloc);
     for s in now {

@@ -4,7 +4,7 @@ ghost use Rattle.std.specs.Prelude.{◌≡◌, ◌<◌, IfOk, OnOk, length};
 ghost use Rattle.plane_model.specs.PlaneMap.{ring, rings};
 ghost use Rattle.plane_model.specs.Component.{component, components};
 ghost use Rattle.rotation_check.specs.Darts.{IsRotation, map_of_rotation};
-ghost use Rattle.euler_check.specs.Numbers.{AreNumbers};
+ghost use Rattle.euler_check.specs.Numbers.{ArePartNumbers};
 ghost use Rattle.islands.specs.Darts.{AreDartsOf};
 ghost use Rattle.islands.specs.Rising.{IsFirstAdded};
 
@@ -43,8 +43,8 @@ pub fn least_darts(
     rotation: &Rotation,
     parts: &Parts,
 ) -> Result<LeastDarts, AllocError>
-    requires rings { AreNumbers rotation.now.edges (ring (map_of_rotation rotation.now)) parts.now.rings }
-    requires components { AreNumbers rotation.now.edges (component (map_of_rotation rotation.now)) parts.now.components }
+    requires rings { ArePartNumbers rotation.now.edges (ring (map_of_rotation rotation.now)) parts.now.rings }
+    requires components { ArePartNumbers rotation.now.edges (component (map_of_rotation rotation.now)) parts.now.components }
     ensures rotation { OnOk result (IsRotation rotation.now) }
     ensures rings { IfOk result (λ least. AreDartsOf rotation.now.edges (rings (map_of_rotation rotation.now)) least.rings.items) }
     ensures components { IfOk result (λ least. AreDartsOf rotation.now.edges (components (map_of_rotation rotation.now)) least.components.items) }

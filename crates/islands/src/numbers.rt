@@ -7,7 +7,7 @@ ghost use Rattle.plane_model.specs.PlaneMap.{ring, side};
 ghost use Rattle.plane_model.specs.Component.{component};
 ghost use Rattle.plane_model.specs.Faces.{is_labelled};
 ghost use Rattle.rotation_check.specs.Darts.{map_of_rotation, signed_edge};
-ghost use Rattle.euler_check.specs.Numbers.{AreNumbers};
+ghost use Rattle.euler_check.specs.Numbers.{ArePartNumbers};
 ghost use Rattle.islands.specs.MapNumbers.{IsNumberedMap};
 ghost use Rattle.islands.specs.Placed.{AreFacesOf};
 
@@ -103,8 +103,8 @@ pub fn number_map(
     parts: &Parts,
     faces: &[FaceRow],
 ) -> Result<NumberedMap, AllocError>
-    requires rings { AreNumbers rotation.now.edges (ring (map_of_rotation rotation.now)) parts.now.rings }
-    requires components { AreNumbers rotation.now.edges (component (map_of_rotation rotation.now)) parts.now.components }
+    requires rings { ArePartNumbers rotation.now.edges (ring (map_of_rotation rotation.now)) parts.now.rings }
+    requires components { ArePartNumbers rotation.now.edges (component (map_of_rotation rotation.now)) parts.now.components }
     requires labelled { IsTrue (is_labelled (map_of_rotation rotation.now)) }
     requires faces { AreFacesOf rotation.now faces.now }
     ensures { IfOk result (IsNumberedMap rotation.now faces.now parts.now.components) }

@@ -9,7 +9,7 @@ ghost use Rattle.plane_model.specs.Faces.{is_labelled, is_placed, outer_rings};
 ghost use Rattle.plane_model.specs.Faults.{placement_fault};
 ghost use Rattle.rotation_check.specs.Checked.{Names};
 ghost use Rattle.rotation_check.specs.Darts.{map_of_rotation, signed_edge};
-ghost use Rattle.euler_check.specs.Numbers.{AreNumbers};
+ghost use Rattle.euler_check.specs.Numbers.{ArePartNumbers};
 ghost use Rattle.islands.specs.Darts.{AreDartsOf};
 ghost use Rattle.islands.specs.Numbered.{ring_at};
 ghost use Rattle.islands.specs.MapNumbers.{IsNumberedMap};
@@ -54,8 +54,8 @@ pub fn place(
     parts: &Parts,
     faces: &[FaceRow],
 ) -> Result<Placement, CheckFault>
-    requires rings { AreNumbers rotation.now.edges (ring (map_of_rotation rotation.now)) parts.now.rings }
-    requires components { AreNumbers rotation.now.edges (component (map_of_rotation rotation.now)) parts.now.components }
+    requires rings { ArePartNumbers rotation.now.edges (ring (map_of_rotation rotation.now)) parts.now.rings }
+    requires components { ArePartNumbers rotation.now.edges (component (map_of_rotation rotation.now)) parts.now.components }
     requires labelled { IsTrue (is_labelled (map_of_rotation rotation.now)) }
     requires faces { AreFacesOf rotation.now faces.now }
     ensures placed { OnOk result (IsTrue (is_placed (map_with_faces rotation.now faces.now))) }

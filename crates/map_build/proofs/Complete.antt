@@ -5,6 +5,7 @@ use Rattle.std.specs.List.{range_with_len, list_all}
 use Rattle.std.proofs.lemmas.Bool.{cases_lt, cases_eq, and_parts, and_from, lt-ltb, le-leb, eqb-true, eq-eqb, ne_eqb, or_cases, both_ways, false_from_ne_true, or_right}
 use Rattle.orbits.proofs.Numbers.{same_numbers, in_range}
 use Rattle.orbits.proofs.Lists.{from_filter, pigeon}
+use Rattle.bit_words.specs.Lists.{first_some}
 use Rattle.bit_words.proofs.Finds.{find-none, least-find}
 use Rattle.bit_words.proofs.Ranks.{rank_both}
 use Rattle.parens.specs.Matching.{balance_fault}
@@ -25,7 +26,7 @@ use Rattle.code_laws.specs.Code.{Code, start_of, component_of, component_count}
 use Rattle.code_laws.specs.Numbers.{edge_of, ring_of, is_outer, is_shell, first_of_edge, first_of_shell, edge_count, shell_count, tree_edges, opening_position, one_on}
 use Rattle.code_laws.specs.declared.ring_number.RingNumber.{RingNumber}
 use Rattle.code_laws.specs.declared.ring_number.RingNumber.TheVariants.{Outer, Shell}
-use Rattle.code_laws.specs.SeqFault.{is_sound, first_some}
+use Rattle.code_laws.specs.SeqFault.{is_sound}
 use Rattle.code_laws.specs.Tour.{code_of}
 use Rattle.code_laws.proofs.Sound.{SoundParts, whole, rises_to}
 use Rattle.code_laws.proofs.Edges.{laws, one_edge, edge_there, edge_within, closed}

@@ -16,7 +16,7 @@ use Rattle.plane_model.proofs.FaultParts.{has_key_at}
 use Rattle.plane_model.proofs.Sorting.{rising-has, rising_strictly, strictly_rising_of}
 use Rattle.id_names.proofs.NumberLaws.{number_of-at}
 use Rattle.region_tree.specs.Nesting.{region_at}
-use Rattle.region_tree.specs.Numbering.{AreMembers, AreNumbered}
+use Rattle.region_tree.specs.Numbering.{AreMembers, RegionsAreNumbered}
 use Rattle.region_tree.specs.Parts.{member_places, region_bits, region_ids}
 use Rattle.region_tree.specs.declared.parts.MemberPlace.{MemberPlace}
 use Rattle.region_tree.proofs.GivenBack.{found-passes, members_given_back, regions_back}
@@ -110,7 +110,7 @@ module _ (t : Rows) (g : AreGood t) where
   abbrev ids : List ℕ
   ids = region_ids (map_of t)
 
-  pub numbered : AreNumbered m (region_bits m) ids
+  pub numbered : RegionsAreNumbered m (region_bits m) ids
   numbered = regions_back t g.in_range g.regions
 
   pub members : AreMembers m ids (member_places m)
@@ -169,8 +169,8 @@ module _ (t : Rows) (g : AreGood t) where
           ap (λ o. unwrap_or (option_map (λ (p : MemberPlace). p.region + 1) o) 0) e ∙ sym (ap (region_number ids) at ∙ ap (λ o. unwrap_or o 0 + 1) number)
 
 -- two maps with the same regions by number
-module _ (t u : Rows) (h : is_region_forest t ≡ true) (k : is_region_forest u ≡ true) (bits : List Bool) (ids : List ℕ) (a : AreNumbered (map_of t) bits ids) (b : AreNumbered (map_of u) bits ids) where
-  region_key : (t : Rows) → AreNumbered (map_of t) bits ids → (r : ℕ) → is_some ((map_of t).regions.at r) ≡ has ids r
+module _ (t u : Rows) (h : is_region_forest t ≡ true) (k : is_region_forest u ≡ true) (bits : List Bool) (ids : List ℕ) (a : RegionsAreNumbered (map_of t) bits ids) (b : RegionsAreNumbered (map_of u) bits ids) where
+  region_key : (t : Rows) → RegionsAreNumbered (map_of t) bits ids → (r : ℕ) → is_some ((map_of t).regions.at r) ≡ has ids r
   region_key t a r = sym (has_key_at (λ (r : RegionRow). r.id) (λ (r : RegionRow). r.parent) t.regions r) ∙ sym (a.regions r)
 
   region_keys : (map_of t).regions.keys ≡ (map_of u).regions.keys

@@ -3,7 +3,7 @@ use Rattle.std.proofs.Common.{◌≢◌, ◌≡◌, ℕ, ◌+◌, ◌-◌, ◌*�
 use Rattle.std.proofs.lemmas.Bool.{cases_lt}
 use Rattle.std.proofs.lemmas.List.{get_or_append_left, get_or-append-add, length-append, ext_get_or}
 use Rattle.bit_words.specs.WrongEntry.{IsFirstWrong}
-use Rattle.min_max_tree.specs.Built.{Holds, Built}
+use Rattle.min_max_tree.specs.Built.{HoldsFirst, Built}
 use Rattle.min_max_tree.specs.Tree.{span_at, size_at, start_at, node_from, node_to, node, nodes_of, tree_size}
 use Rattle.min_max_tree.proofs.Runs.{run-bounds}
 use Rattle.min_max_tree.specs.Node.{IsRun, joined, AreJoinable, of_word, word_of}
@@ -32,12 +32,12 @@ module _ (bits : List Bool) (few : length bits ≤ 2147483647) (level : Level) (
       let a = node-at bits level.height k l.reached w in
       omega (arith, l.start, a.0, nodes-length bits, tree-le (length bits), few)
 
-  pub child-node : (words : List ℕ) (k : ℕ) → Holds (nodes_of bits) words (start_at (length bits) (level.height + 1)) → k < size_at (length bits) level.height → get_or words (level.start + k) 0 ≡ node bits level.height k
+  pub child-node : (words : List ℕ) (k : ℕ) → HoldsFirst (nodes_of bits) words (start_at (length bits) (level.height + 1)) → k < size_at (length bits) level.height → get_or words (level.start + k) 0 ≡ node bits level.height k
   child-node words k holds w =
       let a = node-at bits level.height k l.reached w in
       holds.same (level.start + k) (child-place k w) ∙ ap (λ s. get_or (nodes_of bits) (s + k) 0) l.start ∙ a.1
 
-  pub child-run : (words : List ℕ) (k : ℕ) → Holds (nodes_of bits) words (start_at (length bits) (level.height + 1)) → k < size_at (length bits) level.height → IsRun bits (node_from level.height k) (node_to (length bits) level.height k) (of_word (get_or words (level.start + k) 0))
+  pub child-run : (words : List ℕ) (k : ℕ) → HoldsFirst (nodes_of bits) words (start_at (length bits) (level.height + 1)) → k < size_at (length bits) level.height → IsRun bits (node_from level.height k) (node_to (length bits) level.height k) (of_word (get_or words (level.start + k) 0))
   child-run words k holds w = word-run bits level.height k _ few w (child-node words k holds w)
 
 -- a node from the nodes below it
@@ -94,7 +94,7 @@ Built-more tree words more n word b e f = record {
 pub Built-all : (tree words : List ℕ) (n : ℕ) → Built tree words n → n ≡ length tree → words ≡ tree
 Built-all tree words n b e = ext_get_or 0 words tree (b.size ∙ e) (λ i h. b.holds.same i (omega (arith, b.size)))
 
-pub Holds-less : (tree words : List ℕ) (n m : ℕ) → Holds tree words n → m ≤ n → Holds tree words m
+pub Holds-less : (tree words : List ℕ) (n m : ℕ) → HoldsFirst tree words n → m ≤ n → HoldsFirst tree words m
 Holds-less tree words n m h l = record { same = λ k p. h.same k (omega arith) }
 
 pub reached-above : (len : ℕ) (level : Level) → IsLevel len level → 1 < size_at len level.height → (g : ℕ) → g < level.height + 1 → 1 < size_at len g
@@ -105,7 +105,7 @@ reached-above len level l more g q =
     (cases_lt g level.height)
 
 -- the words of the nodes below node j
-module _ (bits : List Bool) (few : length bits ≤ 2147483647) (level : Level) (l : IsLevel (length bits) level) (words : List ℕ) (holds : Holds (nodes_of bits) words (start_at (length bits) (level.height + 1))) (j : ℕ) (within : j < size_at (length bits) (level.height + 1)) where
+module _ (bits : List Bool) (few : length bits ≤ 2147483647) (level : Level) (l : IsLevel (length bits) level) (words : List ℕ) (holds : HoldsFirst (nodes_of bits) words (start_at (length bits) (level.height + 1))) (j : ℕ) (within : j < size_at (length bits) (level.height + 1)) where
   pub left-place : level.start + 2 * j < start_at (length bits) (level.height + 1)
   left-place = child-place bits few level l (2 * j) (left-there (length bits) level.height j within)
 
@@ -145,10 +145,10 @@ pub parent-within : (len count h k above j : ℕ) → count ≡ len → above �
 parent-within len count h k above j e f g w = let m : size_at count above ≡ size_at len (h + 1) = rw (e, f) refl in omega (arith, m, g, w)
 
 -- what a check knows so far
-pub Holds-none : (tree words : List ℕ) → Holds tree words 0
+pub Holds-none : (tree words : List ℕ) → HoldsFirst tree words 0
 Holds-none tree words = record { same = λ k h. absurd (omega arith) }
 
-pub Holds-more : (tree words : List ℕ) (n m word want : ℕ) → Holds tree words n → word ≡ get_or words n 0 → want ≡ get_or tree n 0 → word ≡ want → m ≡ n + 1 → Holds tree words m
+pub Holds-more : (tree words : List ℕ) (n m word want : ℕ) → HoldsFirst tree words n → word ≡ get_or words n 0 → want ≡ get_or tree n 0 → word ≡ want → m ≡ n + 1 → HoldsFirst tree words m
 Holds-more tree words n m word want h a b e f = record {
   same = λ k p. ⊎_elim
       (λ (q : k < n). h.same k q)
@@ -156,10 +156,10 @@ Holds-more tree words n m word want h a b e f = record {
       (cases_lt k n);
 }
 
-pub Holds-all : (tree words : List ℕ) (n : ℕ) → Holds tree words n → length words ≡ length tree → n ≡ length tree → words ≡ tree
+pub Holds-all : (tree words : List ℕ) (n : ℕ) → HoldsFirst tree words n → length words ≡ length tree → n ≡ length tree → words ≡ tree
 Holds-all tree words n h e f = ext_get_or 0 words tree e (λ i p. h.same i (omega arith))
 
-pub first-wrong : (tree words : List ℕ) (n found want : ℕ) → Holds tree words n → n < length tree → found ≡ get_or words n 0 → want ≡ get_or tree n 0 → found ≢ want → IsFirstWrong tree words (record { at = n; want = want; found = found })
+pub first-wrong : (tree words : List ℕ) (n found want : ℕ) → HoldsFirst tree words n → n < length tree → found ≡ get_or words n 0 → want ≡ get_or tree n 0 → found ≢ want → IsFirstWrong tree words (record { at = n; want = want; found = found })
 first-wrong tree words n found want h l a b ne = record {
   within = l;
   wanted = b;

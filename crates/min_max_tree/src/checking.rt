@@ -7,7 +7,7 @@ ghost use Rattle.bit_words.specs.WrongEntry.{IsFirstWrong};
 ghost use Rattle.min_max_tree.specs.Tree.{size_at, start_at, node_from, node_to, nodes_of, tree_size};
 ghost use Rattle.min_max_tree.specs.Node.{IsRun};
 ghost use Rattle.min_max_tree.specs.Level.{IsLevel};
-ghost use Rattle.min_max_tree.specs.Built.{Holds};
+ghost use Rattle.min_max_tree.specs.Built.{HoldsFirst};
 
 use crate::level::Level;
 use crate::node::Node;
@@ -39,7 +39,7 @@ fn parent_seen<C: Ledger>(
     requires level { IsLevel (length (bits_of bits.now)) level }
     requires within { j < size_at (length (bits_of bits.now)) (level.height + 1) }
     requires size { start_at (length (bits_of bits.now)) (level.height + 1) ≤ length (words_of nodes.now) }
-    requires holds { Holds (nodes_of (bits_of bits.now)) (words_of nodes.now) (start_at (length (bits_of bits.now)) (level.height + 1)) }
+    requires holds { HoldsFirst (nodes_of (bits_of bits.now)) (words_of nodes.now) (start_at (length (bits_of bits.now)) (level.height + 1)) }
     ensures run { IsRun (bits_of bits.now) (node_from (level.height + 1) j) (node_to (length (bits_of bits.now)) (level.height + 1) j) result }
     ensures some_steps { steps.old + 1 ≤ steps.new }
     ensures cost { steps.new ≤ steps.old + 2 }
@@ -60,7 +60,7 @@ fn check_lowest<C: Ledger>(
 ) -> Result<(), WrongEntry>
     requires few { length (bits_of bits.now) ≤ 2147483647 }
     requires size { length (words_of nodes.now) ≡ tree_size (length (bits_of bits.now)) }
-    ensures checked { MatchResult result (λ _. Holds (nodes_of (bits_of bits.now)) (words_of nodes.now) (start_at (length (bits_of bits.now)) 1)) (IsFirstWrong (nodes_of (bits_of bits.now)) (words_of nodes.now)) }
+    ensures checked { MatchResult result (λ _. HoldsFirst (nodes_of (bits_of bits.now)) (words_of nodes.now) (start_at (length (bits_of bits.now)) 1)) (IsFirstWrong (nodes_of (bits_of bits.now)) (words_of nodes.now)) }
     ensures grows { steps.old ≤ steps.new }
     ensures cost { steps.new ≤ steps.old + length (bits_of bits.now) + start_at (length (bits_of bits.now)) 1 }
 {
@@ -90,8 +90,8 @@ fn check_parents<C: Ledger>(
     requires size { length (words_of nodes.now) ≡ tree_size (length (bits_of bits.now)) }
     requires level { IsLevel (length (bits_of bits.now)) level }
     requires more { 1 < size_at (length (bits_of bits.now)) level.height }
-    requires holds { Holds (nodes_of (bits_of bits.now)) (words_of nodes.now) (start_at (length (bits_of bits.now)) (level.height + 1)) }
-    ensures checked { MatchResult result (λ _. Holds (nodes_of (bits_of bits.now)) (words_of nodes.now) (start_at (length (bits_of bits.now)) (level.height + 2))) (IsFirstWrong (nodes_of (bits_of bits.now)) (words_of nodes.now)) }
+    requires holds { HoldsFirst (nodes_of (bits_of bits.now)) (words_of nodes.now) (start_at (length (bits_of bits.now)) (level.height + 1)) }
+    ensures checked { MatchResult result (λ _. HoldsFirst (nodes_of (bits_of bits.now)) (words_of nodes.now) (start_at (length (bits_of bits.now)) (level.height + 2))) (IsFirstWrong (nodes_of (bits_of bits.now)) (words_of nodes.now)) }
     ensures grows { steps.old ≤ steps.new }
     ensures cost { steps.new + 3 * start_at (length (bits_of bits.now)) (level.height + 1) ≤ steps.old + 3 * start_at (length (bits_of bits.now)) (level.height + 2) }
 {

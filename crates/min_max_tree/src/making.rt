@@ -4,7 +4,7 @@ ghost use Rattle.std.specs.Prelude.{◌≡◌, ◌<◌, ◌≤◌, ◌+◌, ◌*
 ghost use Rattle.min_max_tree.specs.Tree.{size_at, start_at, node_from, node_to, nodes_of};
 ghost use Rattle.min_max_tree.specs.Node.{IsRun};
 ghost use Rattle.min_max_tree.specs.Level.{IsLevel};
-ghost use Rattle.min_max_tree.specs.Built.{Holds, Built};
+ghost use Rattle.min_max_tree.specs.Built.{HoldsFirst, Built};
 
 use crate::level::Level;
 use crate::node::Node;
@@ -34,7 +34,7 @@ fn parent_of(bits: &BitMaker, nodes: &[u64], level: Level, j: usize) -> Node
     requires more { 1 < size_at (length bits.now) level.height }
     requires within { j < size_at (length bits.now) (level.height + 1) }
     requires size { start_at (length bits.now) (level.height + 1) ≤ length nodes.now }
-    requires holds { Holds (nodes_of bits.now) nodes.now (start_at (length bits.now) (level.height + 1)) }
+    requires holds { HoldsFirst (nodes_of bits.now) nodes.now (start_at (length bits.now) (level.height + 1)) }
     ensures { IsRun bits.now (node_from (level.height + 1) j) (node_to (length bits.now) (level.height + 1) j) result }
 {
     let at = level.start + 2 * j;

@@ -7,7 +7,7 @@ use Rattle.bit_words.proofs.Finds.{least-find}
 use Rattle.plane_model.specs.Sets.{has_edge, or_else}
 use Rattle.plane_model.specs.PlaneMap.{PlaneMap, side, leaving}
 use Rattle.plane_model.specs.Rotation.{node_face}
-use Rattle.plane_model.specs.Lists.{containing, face_round}
+use Rattle.plane_model.specs.Lists.{containing, enclosing_face}
 use Rattle.plane_model.specs.Faces.{outer_ring}
 use Rattle.plane_model.proofs.SetLaws.{same_self}
 use Rattle.code_laws.specs.Code.{Code, component_of, start_of, component_count as code_components}
@@ -65,10 +65,10 @@ module _ (c : Contents) (h : is_whole c ≡ true) where
   isolated_in x place l g e =
       let test = le-ltb x (joined_count c) g in
       let face : node_face m (slice_index c.nodes x) ≡ Some (face_at_place c place) = face_of c w x l ∙ rw test (ap (λ y. Some (face_at_place c y)) (sym e)) in
-      ap (λ o. or_else o (face_round m (leaving m (slice_index c.nodes x)))) face
+      ap (λ o. or_else o (enclosing_face m (leaving m (slice_index c.nodes x)))) face
 
   from_leaving : (p : ℕ) (ds : List ℤ) → p < length c.code.a → leaving m (slice_index c.nodes (node_of c.code p)) ≡ ds → node_of c.code p < length c.nodes
-      → face_round m ds ≡ Some (face_at_place c (slice_index c.places (component_of c.code p)))
+      → enclosing_face m ds ≡ Some (face_at_place c (slice_index c.places (component_of c.code p)))
   unfolding Rattle.file_laws.specs.MapOfFile.node_at
   from_leaving p [] l e x_in =
       let own : has_edge [] (signed_at c p) ≡ true = subst (λ es. has_edge es (signed_at c p) ≡ true) e (at_leaves c w p l) in
@@ -91,6 +91,6 @@ module _ (c : Contents) (h : is_whole c ≡ true) where
       let test = lt-ltb x (joined_count c) k in
       let face : node_face m (slice_index c.nodes x) ≡ None = face_of c w x l ∙ rw test refl in
       let same : slice_index c.nodes (node_of c.code p) ≡ slice_index c.nodes x = ap (slice_index c.nodes) e in
-      ap (λ o. or_else o (face_round m (leaving m (slice_index c.nodes x)))) face
+      ap (λ o. or_else o (enclosing_face m (leaving m (slice_index c.nodes x)))) face
       ∙ from_leaving p (leaving m (slice_index c.nodes x)) p_in (ap (leaving m) same) (omega (arith, e, l))
       ∙ ap (λ y. Some (face_at_place c y)) (sym f)

@@ -9,7 +9,7 @@ use Rattle.std.proofs.Math.Nat.{mul-le-mul_left}
 use Rattle.bit_words.specs.Digits.{digits}
 use Rattle.bit_words.proofs.DigitLaws.{digits-mono}
 use Rattle.code_laws.specs.Code.{Code, component_of}
-use Rattle.code_laws.specs.Numbers.{pair_round}
+use Rattle.code_laws.specs.Numbers.{enclosing_pair}
 use Rattle.code_laws.specs.Orbits.{orbit, is_beside, same_number}
 use Rattle.code_laws.specs.SeqFault.{is_sound}
 use Rattle.code_laws.proofs.Sound.{SoundParts, sound_parts}
@@ -55,8 +55,8 @@ turned t n p l =
 
 beside-alike : (c : Code) (kind : Bool) (p q x : ℕ) → AreBeside c kind p q → is_beside c kind q x ≡ is_beside c kind p x
 beside-alike c kind p q x b =
-    ap (λ y. (y == component_of c x) && same_number (pair_round c kind q) (pair_round c kind x)) b.component
-    ∙ ap (λ o. (component_of c p == component_of c x) && same_number o (pair_round c kind x)) b.number
+    ap (λ y. (y == component_of c x) && same_number (enclosing_pair c kind q) (enclosing_pair c kind x)) b.component
+    ∙ ap (λ o. (component_of c p == component_of c x) && same_number o (enclosing_pair c kind x)) b.number
 
 pub orbit-length : (c : Code) → SoundParts c → (kind : Bool) (p q : ℕ) → p < length c.a → q < length c.a → AreBeside c kind p q → length (orbit c kind q) ≡ length (orbit c kind p)
 orbit-length c s kind p q l k b =

@@ -9,7 +9,7 @@ use Rattle.plane_model.specs.Sets.{has}
 use Rattle.plane_model.specs.PlaneMap.{PlaneMap}
 use Rattle.plane_model.specs.Regions as regions
 use Rattle.region_tree.specs.Nesting.{region_count, parent_number, upward, chain, common_number, region_at}
-use Rattle.region_tree.specs.Numbering.{AreNumbered}
+use Rattle.region_tree.specs.Numbering.{RegionsAreNumbered}
 use Rattle.region_tree.specs.RegionView.{Regions}
 use Rattle.region_tree.proofs.ByNumber.{parent-lower, chain-number, common-regions}
 use Rattle.file_laws.specs.Contents.{Contents}
@@ -60,7 +60,7 @@ find-none [] = refl
 find-none (x ∷ xs) = find-none xs
 
 module _ (c : Contents) (h : is_whole c ≡ true) where
-  are : AreNumbered (map_with c) c.region_bits c.regions
+  are : RegionsAreNumbered (map_with c) c.region_bits c.regions
   are = numbered_of c h
 
   many : region_count c.region_bits ≡ length c.regions

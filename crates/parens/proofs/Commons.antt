@@ -9,21 +9,21 @@ use Rattle.min_max_tree.specs.Tree.{least}
 use Rattle.min_max_tree.proofs.Falls.{excess-ranks}
 use Rattle.min_max_tree.proofs.Nodes.{least-le, least-above}
 use Rattle.min_max_tree.proofs.Backs.{was_from_never}
-use Rattle.parens.specs.Matching.{is_open, close_of, is_from, is_round, falling, common_of, mate_of}
+use Rattle.parens.specs.Matching.{is_open, close_of, is_from, is_enclosing, falling, common_of, mate_of}
 use Rattle.parens.specs.Pairs.{IsOver, IsCommon}
 use Rattle.parens.proofs.Balances.{IsBalanced}
 use Rattle.parens.proofs.Greatest.{find-greatest, find-no_falling, greatest-find, no_falling-find}
 use Rattle.parens.proofs.Arcs.{close-arc, arc_from, arc-closes, mate-opens, arc-nests, open_where_up, open_within, above_after}
-use Rattle.parens.proofs.Rounds.{IsAbove, round-above, above-round}
+use Rattle.parens.proofs.Enclosing.{IsAbove, round-above, above-round}
 
 -- a pair is round its own opening place
-round_self : (bits : List Bool) (k : ℕ) → IsBalanced bits → is_open bits k ≡ true → is_round bits k k ≡ true
+round_self : (bits : List Bool) (k : ℕ) → IsBalanced bits → is_open bits k ≡ true → is_enclosing bits k k ≡ true
 round_self bits k b opens =
     let m = arc_from bits k b opens in
     and_from _ _ opens (rw (close-arc bits k m.0 m.1) (le-leb k m.0 (omega (arith, m.1.order))))
 
 -- a pair that is round the opening place of another is that pair or encloses it
-pub round-over : (bits : List Bool) (i k : ℕ) → IsBalanced bits → is_open bits i ≡ true → k ≤ i → is_round bits i k ≡ true → IsOver bits k i
+pub round-over : (bits : List Bool) (i k : ℕ) → IsBalanced bits → is_open bits i ≡ true → k ≤ i → is_enclosing bits i k ≡ true → IsOver bits k i
 round-over bits i k b opens l r =
     let parts = and_parts (is_open bits k) (is_from i (close_of bits k)) r in
     let m = arc_from bits k b parts.0 in
@@ -44,7 +44,7 @@ round-over bits i k b opens l r =
     }
 
 -- and the other way round
-pub over-round : (bits : List Bool) (i k : ℕ) → IsBalanced bits → is_open bits i ≡ true → IsOver bits k i → is_round bits i k ≡ true
+pub over-round : (bits : List Bool) (i k : ℕ) → IsBalanced bits → is_open bits i ≡ true → IsOver bits k i → is_enclosing bits i k ≡ true
 over-round bits i k b opens o =
     let m = arc_from bits k b o.opens in
     let e = mate-opens bits k m.0 m.1 in
@@ -57,12 +57,12 @@ over-round bits i k b opens o =
 pub excess-le : (bits : List Bool) (p : ℕ) → p ≤ length bits → excess bits p ≤ℤ pos p
 excess-le bits p h = let e = excess-ranks bits p h in let r = rank-le true bits p in omega (arith, ints, e, r)
 
-above-over : (bits : List Bool) (x k : ℕ) → IsBalanced bits → is_open bits x ≡ true → is_open bits k ≡ true → k ≤ x → IsAbove bits x k → is_round bits x k ≡ true
+above-over : (bits : List Bool) (x k : ℕ) → IsBalanced bits → is_open bits x ≡ true → is_open bits k ≡ true → k ≤ x → IsAbove bits x k → is_enclosing bits x k ≡ true
 above-over bits x k b there opens l a =
     let w = open_within bits x there in
     elim (cases_lt k x) [
       | inl h ↦ above-round bits x k b h (omega arith) a
-      | inr h ↦ let e : k ≡ x = omega arith in subst (λ y. is_round bits y k ≡ true) e (round_self bits k b opens)
+      | inr h ↦ let e : k ≡ x = omega arith in subst (λ y. is_enclosing bits y k ≡ true) e (round_self bits k b opens)
     ]
 
 -- how far an excess is above the least from there on
@@ -74,14 +74,14 @@ small_fall bits from to m b order within e =
 
 -- ---- the pair that is found
 module _ (bits : List Bool) (i j : ℕ) (b : IsBalanced bits) (first : is_open bits i ≡ true) (second : is_open bits j ≡ true) where
-  over_both : (q : ℕ) → IsOver bits q i → IsOver bits q j → is_round bits i q && is_round bits j q ≡ true
+  over_both : (q : ℕ) → IsOver bits q i → IsOver bits q j → is_enclosing bits i q && is_enclosing bits j q ≡ true
   over_both q o p = and_from _ _ (over-round bits i q b first o) (over-round bits j q b second p)
 
   pub common-some : (k : ℕ) → common_of bits i j ≡ Some k → IsCommon bits i j k
   unfolding common_of
   common-some k e =
-      let g = greatest-find (λ q. is_round bits i q && is_round bits j q) (min i j + 1) k e in
-      let parts = and_parts (is_round bits i k) (is_round bits j k) g.passes in
+      let g = greatest-find (λ q. is_enclosing bits i q && is_enclosing bits j q) (min i j + 1) k e in
+      let parts = and_parts (is_enclosing bits i k) (is_enclosing bits j k) g.passes in
       let below = g.below in
       let o = round-over bits i k b first (omega arith) parts.0 in
       record {
@@ -112,7 +112,7 @@ module _ (bits : List Bool) (i j : ℕ) (b : IsBalanced bits) (first : is_open b
   common-none e q x y =
       let f = x.from in
       let h = y.from in
-      both_ways _ (no_falling-find (λ k. is_round bits i k && is_round bits j k) (min i j + 1) e q (omega arith)) (over_both q x y)
+      both_ways _ (no_falling-find (λ k. is_enclosing bits i k && is_enclosing bits j k) (min i j + 1) e q (omega arith)) (over_both q x y)
 
   pub common-said : (o : Option ℕ) → o ≡ common_of bits i j → IfSome o (IsCommon bits i j)
   common-said None e = tt
@@ -126,8 +126,8 @@ pub common-self : (bits : List Bool) (i j : ℕ) → IsBalanced bits → is_open
 unfolding common_of
 common-self bits i j b opens e =
     let r = round_self bits i b opens in
-    let r' : is_round bits j i ≡ true = subst (λ x. is_round bits x i ≡ true) e r in
-    find-greatest (λ k. is_round bits i k && is_round bits j k) (min i j + 1) i (omega arith) (and_from _ _ r r') (λ q x y. absurd (omega arith))
+    let r' : is_enclosing bits j i ≡ true = subst (λ x. is_enclosing bits x i ≡ true) e r in
+    find-greatest (λ k. is_enclosing bits i k && is_enclosing bits j k) (min i j + 1) i (omega arith) (and_from _ _ r r') (λ q x y. absurd (omega arith))
 
 -- ---- how it is searched: below the least excess between the two places
 module _ (bits : List Bool) (i j low high : ℕ) (b : IsBalanced bits) (first : is_open bits i ≡ true) (second : is_open bits j ≡ true) (lo : low ≡ min i j) (hi : high ≡ max i j) where
@@ -140,13 +140,13 @@ module _ (bits : List Bool) (i j low high : ℕ) (b : IsBalanced bits) (first : 
   high-open : is_open bits high ≡ true
   high-open = at_high (λ x. is_open bits x ≡ true) first second
 
-  above_both : (k : ℕ) → k ≤ low → is_round bits i k && is_round bits j k ≡ true → IsAbove bits high k
+  above_both : (k : ℕ) → k ≤ low → is_enclosing bits i k && is_enclosing bits j k ≡ true → IsAbove bits high k
   above_both k l h =
-      let p = and_parts (is_round bits i k) (is_round bits j k) h in
+      let p = and_parts (is_enclosing bits i k) (is_enclosing bits j k) h in
       let w = within in
       at_high (λ x. IsAbove bits x k) (round-above bits i k (omega arith) p.0) (round-above bits j k (omega arith) p.1)
 
-  both_above : (k : ℕ) → k ≤ low → is_open bits k ≡ true → IsAbove bits high k → is_round bits i k && is_round bits j k ≡ true
+  both_above : (k : ℕ) → k ≤ low → is_open bits k ≡ true → IsAbove bits high k → is_enclosing bits i k && is_enclosing bits j k ≡ true
   both_above k l opens a =
       and_from _ _
       (above-over bits i k b first opens (omega arith) (record { above = λ q x y. a.above q x (omega arith) }))
@@ -167,7 +167,7 @@ module _ (bits : List Bool) (i j low high : ℕ) (b : IsBalanced bits) (first : 
         omega (arith, ints, l, is_least)
 
     -- no pair that opens where the excess is the least or more is round both
-    not_both : (q : ℕ) → q ≤ low → m ≤ℤ excess bits q → is_round bits i q && is_round bits j q ≡ false
+    not_both : (q : ℕ) → q ≤ low → m ≤ℤ excess bits q → is_enclosing bits i q && is_enclosing bits j q ≡ false
     not_both q l h =
         false_from_ne_true _ (λ t.
         let a = above_both q l t in
@@ -204,10 +204,10 @@ module _ (bits : List Bool) (i j low high : ℕ) (b : IsBalanced bits) (first : 
             ];
           } in
           let opens = open_where_up bits p (omega arith) (past (p + 1) (omega arith) (omega arith)) in
-          let f : find (λ k. is_round bits i k && is_round bits j k) (falling (low + 1)) ≡ Some p =
-          find-greatest (λ k. is_round bits i k && is_round bits j k) (low + 1) p l (both_above p (omega arith) opens a)
+          let f : find (λ k. is_enclosing bits i k && is_enclosing bits j k) (falling (low + 1)) ≡ Some p =
+          find-greatest (λ k. is_enclosing bits i k && is_enclosing bits j k) (low + 1) p l (both_above p (omega arith) opens a)
           (λ q x y. let u = past q x (omega arith) in not_both q (omega arith) (omega (arith, ints, u, here))) in
-          subst (λ n. find (λ k. is_round bits i k && is_round bits j k) (falling (n + 1)) ≡ Some p) lo f
+          subst (λ n. find (λ k. is_enclosing bits i k && is_enclosing bits j k) (falling (n + 1)) ≡ Some p) lo f
 
       no_common : ((q : ℕ) → 0 ≤ q → q < low + 1 → excess bits q ≢ excess bits (low + 1) -ℤ pos drop) → common_of bits i j ≡ None
       unfolding common_of
@@ -216,10 +216,10 @@ module _ (bits : List Bool) (i j low high : ℕ) (b : IsBalanced bits) (first : 
           let lh : low ≤ high = omega arith in
           let t : excess bits (low + 1) -ℤ pos drop ≡ m -ℤ pos 1 = omega (arith, ints, fall) in
           let s = was_from_never bits (m -ℤ pos 1) 0 (low + 1) (omega arith) start (λ q x y f. never q x y (f ∙ sym t)) in
-          let f : find (λ k. is_round bits i k && is_round bits j k) (falling (low + 1)) ≡ None =
-          find-no_falling (λ k. is_round bits i k && is_round bits j k) (low + 1)
+          let f : find (λ k. is_enclosing bits i k && is_enclosing bits j k) (falling (low + 1)) ≡ None =
+          find-no_falling (λ k. is_enclosing bits i k && is_enclosing bits j k) (low + 1)
           (λ q x. let u = s.above q (omega arith) x in not_both q (omega arith) (omega (arith, ints, u))) in
-          subst (λ n. find (λ k. is_round bits i k && is_round bits j k) (falling (n + 1)) ≡ None) lo f
+          subst (λ n. find (λ k. is_enclosing bits i k && is_enclosing bits j k) (falling (n + 1)) ≡ None) lo f
 
       pub last-common : (o : Option ℕ) → IsLast (λ p. excess bits p ≡ excess bits (low + 1) -ℤ pos drop) 0 (low + 1) o → o ≡ common_of bits i j
       last-common None h = sym (no_common h)

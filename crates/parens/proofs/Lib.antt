@@ -1,7 +1,7 @@
 pub mod Balances
 pub mod Greatest
 pub mod Arcs
-pub mod Rounds
+pub mod Enclosing
 pub mod Commons
 pub mod Runs
 pub mod Matched

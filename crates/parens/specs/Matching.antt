@@ -39,16 +39,16 @@ is_from p None = false
 is_from p (Some j) = nat_le p j
 
 -- what opens at place i closes at place p or after it: where i is before the gap of p, this pair stands round the gap
-abbrev pub is_round : List Bool → ℕ → ℕ → Bool
-is_round bits p i = is_open bits i && is_from p (close_of bits i)
+abbrev pub is_enclosing : List Bool → ℕ → ℕ → Bool
+is_enclosing bits p i = is_open bits i && is_from p (close_of bits i)
 
 -- the opening place of the innermost pair that opens before a gap and closes at or after it: the one that opens last
 unfoldable pub innermost : List Bool → ℕ → Option ℕ
-innermost bits gap = find (is_round bits gap) (falling gap)
+innermost bits gap = find (is_enclosing bits gap) (falling gap)
 
 -- the opening place of the innermost pair that is or encloses the pairs that open at i and at j: the one that opens last
 unfoldable pub common_of : List Bool → ℕ → ℕ → Option ℕ
-common_of bits i j = find (λ k. is_round bits i k && is_round bits j k) (falling (min i j + 1))
+common_of bits i j = find (λ k. is_enclosing bits i k && is_enclosing bits j k) (falling (min i j + 1))
 
 -- more close than open from place `from` to place p, both included
 abbrev pub closes_more : List Bool → ℕ → ℕ → Bool

@@ -1,7 +1,7 @@
 -- The faults of counts, one by one.
 use Rattle.std.specs.Prelude.{nat_le, nat_lt}
 use Rattle.std.proofs.Common.{◌≡◌, ◌&&◌, ◌||◌, ◌==◌, [], ◌∷◌, refl, ◌∙◌, Option, Some, None}
-use Rattle.code_laws.specs.SeqFault.{first_some}
+use Rattle.bit_words.specs.Lists.{first_some}
 use Rattle.file_laws.specs.Layout.{HeaderCounts, node_count, face_count}
 use Rattle.file_laws.specs.Faults.{count_fault, unless, most}
 use Rattle.file_laws.specs.declared.fault.FileFault.{FileFault}

@@ -2,7 +2,7 @@
 use Rattle.std.specs.Prelude.{nat_le, slice_index, ◌||◌}
 use Rattle.std.proofs.Common.{inl, inr, false, ◌≡◌, ℕ, ◌%◌, ◌≤◌, ◌&&◌, ◌==◌, List, [], ◌∷◌, length, refl, ap, sym, ◌∙◌, arith, Option, Some, None}
 use Rattle.plane_model.specs.Sets.{or_else}
-use Rattle.code_laws.specs.SeqFault.{first_some}
+use Rattle.bit_words.specs.Lists.{first_some}
 use Rattle.file_laws.specs.Layout.{HeaderCounts, counts_in, words_of, file_words, header_words}
 use Rattle.file_laws.specs.Faults.{front_fault, digest_fault, count_fault, unless, magic, wanted_words}
 use Rattle.file_laws.specs.declared.fault.FileFault.{FileFault}

@@ -8,12 +8,13 @@ use Rattle.sha2.specs.Sha256.{sha256, digest_bytes}
 use Rattle.bit_words.specs.Bits.{bits_in, fields_in}
 use Rattle.bit_words.specs.Words.{words_in}
 use Rattle.bit_words.specs.WrongEntry.{first_wrong}
+use Rattle.bit_words.specs.Lists.{first_some}
 use Rattle.bit_words.proofs.FirstWrong.{first_wrong-none}
 use Rattle.bit_words.proofs.WordLists.{length-words_in}
 use Rattle.rank_select.specs.Counts.{counts_of}
 use Rattle.min_max_tree.specs.Tree.{nodes_of}
 use Rattle.code_laws.specs.Code.{Code, code_with}
-use Rattle.code_laws.specs.SeqFault.{seq_fault, is_sound, first_some}
+use Rattle.code_laws.specs.SeqFault.{seq_fault, is_sound}
 use Rattle.id_names.specs.RisingNames.{RisingNames, ids_by_number}
 use Rattle.id_names.specs.Faults.{name_fault}
 use Rattle.id_names.specs.Making.{place_width}

@@ -2,9 +2,10 @@
 use Rattle.std.specs.Prelude.{option_map, IsSome}
 use Rattle.std.proofs.Common.{◌≡◌, ℕ, Bool, true, List, [], ◌∷◌, length, refl, ap, sym, ◌∙◌, Option, Some, None}
 use Rattle.plane_model.specs.Sets.{or_else}
+use Rattle.bit_words.specs.Lists.{first_some}
 use Rattle.parens.specs.Matching.{balance_fault}
 use Rattle.code_laws.specs.Code.{Code}
-use Rattle.code_laws.specs.SeqFault.{first_some, seq_fault}
+use Rattle.code_laws.specs.SeqFault.{seq_fault}
 use Rattle.file_laws.specs.Layout.{counts_in, words_of, bits_at, fields_at}
 use Rattle.file_laws.specs.Contents.{contents_with}
 use Rattle.file_laws.specs.Held.{ids_at, contents_of}

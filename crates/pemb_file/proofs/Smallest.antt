@@ -4,7 +4,7 @@ use Rattle.std.proofs.Common.{◌≡◌, ℕ, zero, suc, ◌+◌, ◌-◌, ◌*�
 use Rattle.std.specs.List.{range_with_len, list_all}
 use Rattle.std.proofs.lemmas.Bool.{cases_Bool, cases_lt, both_ways, ne_eqb, and_from}
 use Rattle.code_laws.specs.Code.{Code, start_of, end_of, component_of, component_count as components_of_code}
-use Rattle.code_laws.specs.Numbers.{ring_of, pair_round, shell_or_outer, is_outer}
+use Rattle.code_laws.specs.Numbers.{ring_of, enclosing_pair, shell_or_outer, is_outer}
 use Rattle.code_laws.specs.SeqFault.{is_sound}
 use Rattle.code_laws.proofs.Sound.{sound_parts, last_start, start_within}
 use Rattle.turan_code.proofs.Views.{stands}
@@ -37,7 +37,7 @@ outer-only c j p (Some x) h = refl
 
 not-outer : (c : Code) (j p : ℕ) → (component_of c p ≡ j → ⊥) → is_outer j (ring_of c p) ≡ false
 unfolding ring_of
-not-outer c j p h = outer-only c j p (pair_round c false p) h
+not-outer c j p h = outer-only c j p (enclosing_pair c false p) h
 
 pub all-smallest : (c : Contents) → is_sound c.code ≡ true → (j : ℕ) → ((p : ℕ) → start_of c.code j ≤ p → p < end_of c.code j → is_smaller c j p ≡ false) → is_smallest c j ≡ true
 all-smallest c sound j h =

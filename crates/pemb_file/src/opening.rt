@@ -3,10 +3,11 @@
 ghost use Rattle.std.specs.Prelude.{◌≡◌, ◌≤◌, ◌+◌, ◌*◌, None, [], ◌∷◌, IfOk, IsTrue, IsSome};
 ghost use Rattle.bit_words.specs.Digits.{digits};
 ghost use Rattle.bit_words.specs.WordView.{words_of as view_words};
+ghost use Rattle.bit_words.specs.Lists.{first_some};
 ghost use Rattle.parens.specs.ParenView.{parens_of};
 ghost use Rattle.id_names.specs.Views.{ids_of};
 ghost use Rattle.turan_code.specs.TuranView.{code_of_view};
-ghost use Rattle.code_laws.specs.SeqFault.{is_sound, first_some};
+ghost use Rattle.code_laws.specs.SeqFault.{is_sound};
 ghost use Rattle.file_laws.specs.Layout.{counts_in, words_of, bits_at};
 ghost use Rattle.file_laws.specs.Held.{ids_at, contents_of};
 ghost use Rattle.pemb_file.specs.Costs.{placed_cost, all_names_cost};

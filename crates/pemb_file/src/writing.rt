@@ -17,7 +17,7 @@ use crate::form::Form;
 use crate::header::{MAGIC, digest_of};
 use crate::layout::Header;
 use crate::parts::ImageParts;
-use bit_words::{Memory, all_bits, all_numbers};
+use bit_words::{Memory, all_bits, packed_numbers};
 use id_names::NameWords;
 use rank_select::make_counts;
 use std::alloc::Global;
@@ -67,7 +67,7 @@ fn push_fields(alloc: Global, image: &mut Vec<u8>, items: &[u32]) -> Result<(), 
     requires { length items.now ≤ 2147483647 }
     ensures { OnOk result ((number : ℕ) → Written image.old.items image.new.items (with_fields number items.now ∷ [])) }
 {
-    let words = all_numbers(alloc, items)?.finish();
+    let words = packed_numbers(alloc, items)?.finish();
     push_words(image, &words)
 }
 

@@ -52,6 +52,21 @@ WhereTold P (Some before) (Some after) = P before after
 abbrev pub OthersStay : List ℕ → Files → Files → Type 0
 OthersStay name before after = (other : List ℕ) → other ≢ name → after other ≡ before other
 
+-- the name holds these bytes, and all other names are as before
+pub record Holds (name bytes : List ℕ) (before after : Files) : Type 0 where
+  pub held : after name ≡ Some bytes
+  pub others : OthersStay name before after
+
+-- the name holds what it held, or nothing, or some bytes at the front of these
+abbrev pub IsFrontAtMost : List ℕ → List ℕ → Files → Files → Type 0
+IsFrontAtMost name bytes before after =
+    (after name ≡ before name) ⊎ (after name ≡ None) ⊎ ((part : List ℕ) × (rest : List ℕ) × (part ++ rest ≡ bytes) × (after name ≡ Some part))
+
+-- and all other names are as before
+pub record HoldsFront (name bytes : List ℕ) (before after : Files) : Type 0 where
+  pub held : IsFrontAtMost name bytes before after
+  pub others : OthersStay name before after
+
 -- the name holds the empty list
 abbrev pub IsStarted : List ℕ → Files → Files → Type 0
 IsStarted name before after = after name ≡ Some []

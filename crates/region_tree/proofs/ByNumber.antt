@@ -3,16 +3,16 @@ use Rattle.std.specs.Prelude.{find, slice_index, option_map, IsTrue}
 use Rattle.std.proofs.Common.{◌≡◌, ◌≢◌, ℕ, zero, suc, ◌+◌, ◌<◌, ◌≤◌, inl, inr, Bool, true, false, ◌==◌, List, [], ◌∷◌, map, length, refl, ap, sym, ◌∙◌, subst, arith, Option, Some, None, eq-eqb}
 use Rattle.std.proofs.lemmas.Bool.{cases_Bool, both_ways, eqb-true, ne_eqb, or_left, or_right}
 use Rattle.bit_words.specs.Bits.{rank, select}
-use Rattle.rank_select.proofs.Selects.{select-placed}
 use Rattle.code_laws.proofs.Apart.{fewer}
-use Rattle.parens.specs.Matching.{is_open, is_round, innermost}
+use Rattle.parens.specs.Matching.{is_open, is_enclosing, innermost}
 use Rattle.parens.proofs.Balances.{IsBalanced, balanced}
 use Rattle.parens.proofs.Greatest.{greatest-find}
 use Rattle.plane_model.specs.Sets.{has}
 use Rattle.plane_model.specs.PlaneMap.{PlaneMap}
 use Rattle.plane_model.specs.Regions as regions
+use Rattle.rank_select.proofs.Selects.{select-placed}
 use Rattle.region_tree.specs.Nesting.{region_count, parent_number, upward, chain, common_number}
-use Rattle.region_tree.specs.Numbering.{AreNumbered}
+use Rattle.region_tree.specs.Numbering.{RegionsAreNumbered}
 use Rattle.region_tree.proofs.Opened.{parent-rank, round_open}
 
 -- a parent has a lower number
@@ -20,7 +20,7 @@ lower_at : (bits : List Bool) → IsBalanced bits → (i y : ℕ) → i ≤ leng
 unfolding innermost
 lower_at bits b i y l None e h = cc
 lower_at bits b i y l (Some k) e h =
-    let g = greatest-find (is_round bits i) i k e in
+    let g = greatest-find (is_enclosing bits i) i k e in
     let less = fewer bits b k i g.below l (round_open bits i k g.passes) in
     let same : rank true bits k ≡ y = cc in
     omega (arith, less, same)
@@ -53,7 +53,7 @@ find-renamed f n apart (x ∷ xs) ys wx wy =
           | inr e ↦ let g = ne_eqb (f x) (f y) (λ s. both_ways _ e (eq-eqb x y (apart x y l (w y (or_left _ _ (eq-eqb y y refl))) s))) in rw (e, g) more
         ]
 
-module _ (m : PlaneMap) (bits : List Bool) (ids : List ℕ) (are : AreNumbered m bits ids) where
+module _ (m : PlaneMap) (bits : List Bool) (ids : List ℕ) (are : RegionsAreNumbered m bits ids) where
   count_is : region_count bits ≡ length ids
   count_is = are.opens
 

@@ -4,7 +4,7 @@ use Rattle.std.proofs.Common.{◌≡◌, ℕ, zero, suc, ◌+◌, ◌<◌, ◌�
 use Rattle.std.proofs.lemmas.Bool.{cases_lt, cases_Bool, and_parts, and_from, both_ways, eqb-true, ne_eqb, lt-ltb, le-ltb, false_from_ne_true}
 use Rattle.bit_words.specs.Bits.{rank}
 use Rattle.code_laws.proofs.Apart.{fewer}
-use Rattle.parens.specs.Matching.{is_open, is_round, innermost, falling, common_of}
+use Rattle.parens.specs.Matching.{is_open, is_enclosing, innermost, falling, common_of}
 use Rattle.parens.proofs.Balances.{IsBalanced}
 use Rattle.parens.proofs.Arcs.{open_within}
 use Rattle.parens.proofs.Greatest.{greatest-find, no_falling-find, falling_skip, falling_same}
@@ -14,7 +14,7 @@ use Rattle.region_tree.proofs.Opened.{parent-rank, round_open, round_self, round
 
 -- the opening places of the pairs that are or enclose the pair of place i, from the innermost on
 abbrev pub over : List Bool → ℕ → List ℕ
-over bits i = filter (is_round bits i) (falling (suc i))
+over bits i = filter (is_enclosing bits i) (falling (suc i))
 
 find-map : (t : ℕ → Bool) (f : ℕ → ℕ) (xs : List ℕ) → find t (map f xs) ≡ option_map f (find (λ k. t (f k)) xs)
 find-map t f [] = refl
@@ -81,26 +81,26 @@ module _ (bits : List Bool) (b : IsBalanced bits) where
         | inr e ↦ rw e more
       ]
 
-  over_first : (i : ℕ) → is_open bits i ≡ true → over bits i ≡ (i ∷ filter (is_round bits i) (falling i))
-  over_first i opens = falling_more (is_round bits i) i (round_self bits b i opens)
+  over_first : (i : ℕ) → is_open bits i ≡ true → over bits i ≡ (i ∷ filter (is_enclosing bits i) (falling i))
+  over_first i opens = falling_more (is_enclosing bits i) i (round_self bits b i opens)
 
-  over_none : (i : ℕ) → innermost bits i ≡ None → filter (is_round bits i) (falling i) ≡ []
+  over_none : (i : ℕ) → innermost bits i ≡ None → filter (is_enclosing bits i) (falling i) ≡ []
   unfolding innermost
-  over_none i h = filter_none (is_round bits i) i (λ q l. no_falling-find (is_round bits i) i h q l)
+  over_none i h = filter_none (is_enclosing bits i) i (λ q l. no_falling-find (is_enclosing bits i) i h q l)
 
-  over_some : (i j : ℕ) → i ≤ length bits → innermost bits i ≡ Some j → (j < i) × (is_open bits j ≡ true) × (filter (is_round bits i) (falling i) ≡ over bits j)
+  over_some : (i j : ℕ) → i ≤ length bits → innermost bits i ≡ Some j → (j < i) × (is_open bits j ≡ true) × (filter (is_enclosing bits i) (falling i) ≡ over bits j)
   unfolding innermost
   over_some i j within h =
-      let g = greatest-find (is_round bits i) i j h in
+      let g = greatest-find (is_enclosing bits i) i j h in
       let opens = round_open bits i j g.passes in
       let d = i - suc j in
       let e : suc j + d ≡ i = omega (arith, g.below) in
-      let skip : filter (is_round bits i) (falling (suc j + d)) ≡ filter (is_round bits i) (falling (suc j)) = filter_skip (is_round bits i) (suc j) d (λ q x y. g.after q (omega arith) (omega arith)) in
-      let here = falling_more (is_round bits i) j g.passes in
-      let below = filter_same (is_round bits i) (is_round bits j) j (round_step bits b i j within g.below g.passes) in (
+      let skip : filter (is_enclosing bits i) (falling (suc j + d)) ≡ filter (is_enclosing bits i) (falling (suc j)) = filter_skip (is_enclosing bits i) (suc j) d (λ q x y. g.after q (omega arith) (omega arith)) in
+      let here = falling_more (is_enclosing bits i) j g.passes in
+      let below = filter_same (is_enclosing bits i) (is_enclosing bits j) j (round_step bits b i j within g.below g.passes) in (
         g.below,
         opens,
-        subst (λ n. filter (is_round bits i) (falling n) ≡ filter (is_round bits i) (falling (suc j))) e skip ∙ here ∙ ap (λ xs. j ∷ xs) below ∙ sym (over_first j opens),
+        subst (λ n. filter (is_enclosing bits i) (falling n) ≡ filter (is_enclosing bits i) (falling (suc j))) e skip ∙ here ∙ ap (λ xs. j ∷ xs) below ∙ sym (over_first j opens),
       )
 
   upward_none : (n : ℕ) → upward n bits None ≡ []
@@ -109,7 +109,7 @@ module _ (bits : List Bool) (b : IsBalanced bits) where
   upward_none (suc n) = refl
 
   upward_rest : (n i : ℕ) → i ≤ length bits → ((j : ℕ) → j < i → is_open bits j ≡ true → upward n bits (Some (rank true bits j)) ≡ map (rank true bits) (over bits j)) → (o : Option ℕ) → innermost bits i ≡ o
-      → upward n bits (option_map (rank true bits) o) ≡ map (rank true bits) (filter (is_round bits i) (falling i))
+      → upward n bits (option_map (rank true bits) o) ≡ map (rank true bits) (filter (is_enclosing bits i) (falling i))
   upward_rest n i within more None h = upward_none n ∙ sym (ap (map (rank true bits)) (over_none i h))
   upward_rest n i within more (Some j) h = let s = over_some i j within h in more j s.0 s.1 ∙ sym (ap (map (rank true bits)) s.2)
 
@@ -131,20 +131,20 @@ module _ (bits : List Bool) (b : IsBalanced bits) where
   unfolding common_number common_of
   common-rank i j oi oj =
       let in_second = λ (x : ℕ). has (map (rank true bits) (over bits j)) x in
-      let both = λ (k : ℕ). is_round bits i k && is_round bits j k in
-      let test = λ (k : ℕ). is_round bits i k && in_second (rank true bits k) in
+      let both = λ (k : ℕ). is_enclosing bits i k && is_enclosing bits j k in
+      let test = λ (k : ℕ). is_enclosing bits i k && in_second (rank true bits k) in
       let n = min i j + 1 in
       let d = suc i - n in
       let e : n + d ≡ suc i = omega arith in
-      let second : (k : ℕ) → is_round bits i k ≡ true → in_second (rank true bits k) ≡ (nat_lt k (suc j) && is_round bits j k) =
-      λ k r. has-ranks (is_round bits j) (round_open bits j) (falling (suc j)) k (round_open bits i k r) ∙ has-falling (is_round bits j) (suc j) k in
+      let second : (k : ℕ) → is_enclosing bits i k ≡ true → in_second (rank true bits k) ≡ (nat_lt k (suc j) && is_enclosing bits j k) =
+      λ k r. has-ranks (is_enclosing bits j) (round_open bits j) (falling (suc j)) k (round_open bits i k r) ∙ has-falling (is_enclosing bits j) (suc j) k in
       let past : (q : ℕ) → n ≤ q → q < n + d → test q ≡ false =
-      λ q x y. elim (cases_Bool (is_round bits i q)) [
+      λ q x y. elim (cases_Bool (is_enclosing bits i q)) [
         | inl r ↦ let far = le-ltb q (suc j) (omega arith) in rw (r, second q r, far) refl
         | inr r ↦ rw r refl
       ] in
       let same : (q : ℕ) → q < n → test q ≡ both q =
-      λ q x. elim (cases_Bool (is_round bits i q)) [
+      λ q x. elim (cases_Bool (is_enclosing bits i q)) [
         | inl r ↦ let near = lt-ltb q (suc j) (omega arith) in rw (r, second q r, near) refl
         | inr r ↦ rw r refl
       ] in
@@ -152,7 +152,7 @@ module _ (bits : List Bool) (b : IsBalanced bits) where
       ap (λ xs. find (has (chain bits (rank true bits j))) xs) (chain-over i oi)
       ∙ ap (λ xs. find (has xs) (map (rank true bits) (over bits i))) (chain-over j oj)
       ∙ find-map in_second (rank true bits) (over bits i)
-      ∙ ap (option_map (rank true bits)) (find-filter (λ k. in_second (rank true bits k)) (is_round bits i) (falling (suc i))
+      ∙ ap (option_map (rank true bits)) (find-filter (λ k. in_second (rank true bits k)) (is_enclosing bits i) (falling (suc i))
       ∙ subst (λ m. find test (falling m) ≡ find test (falling n)) e skip
       ∙ falling_same test both n same)
 

@@ -18,7 +18,7 @@ use Rattle.plane_model.specs.Regions.{is_region, is_region_forest}
 use Rattle.plane_model.proofs.FaultParts.{has_key_at}
 use Rattle.plane_model.proofs.Lookups.{find_key}
 use Rattle.plane_model.proofs.Sorting.{rising-has, among}
-use Rattle.region_tree.specs.Numbering.{AreNumbered, AreMembers}
+use Rattle.region_tree.specs.Numbering.{RegionsAreNumbered, AreMembers}
 use Rattle.region_tree.specs.Parts.{region_ids, region_bits, member_place, member_places}
 use Rattle.region_tree.specs.declared.parts.MemberPlace.{MemberPlace}
 use Rattle.region_tree.proofs.Forests.{IsRegionForest, region_forest, ids_apart, ids_are, ids_many, bits_balanced, bits_open, bits_long, parent_back}
@@ -166,7 +166,7 @@ module _ (t : Rows) (range : is_in_range t ≡ true) (h : is_region_forest t ≡
         | inr none ↦ member_none f none ∙ sym (ap (option_map (λ p. slice_index ids p.region)) (no-face (member_place m) own m.members.keys f none))
       ]
 
-  pub regions_back : AreNumbered m (region_bits m) ids
+  pub regions_back : RegionsAreNumbered m (region_bits m) ids
   regions_back = record {
     balanced = balanced_all (region_bits m) (bits_balanced m forest);
     places = bits_long m forest;

@@ -9,7 +9,7 @@ use Rattle.bit_words.proofs.Finds.{find-least, find-none}
 use Rattle.orbits.proofs.Lists.{pigeon}
 use Rattle.orbits.proofs.Numbers.{same_numbers, in_range, place_in, apart_at}
 use Rattle.plane_model.specs.Sets.{has, is_distinct}
-use Rattle.region_tree.specs.Ancestors.{parent_at, ArePlaces, ancestor, ancestors, comes_back, IsFarUp, IsLeastOf, lesser}
+use Rattle.region_tree.specs.Ancestors.{parent_at, AreParentNumbers, ancestor, ancestors, comes_back, IsFarUp, IsLeastOf, lesser}
 use Rattle.region_tree.proofs.Lookups.{some_in_range, in_range_some}
 use Rattle.region_tree.proofs.Steps.{ancestor-add, ancestor-again, ancestor-before, ancestor-within, ancestor-none, ancestors-at, length-ancestors}
 
@@ -31,7 +31,7 @@ steps-back up n x d a b h =
     let e : d - 1 + 1 ≡ d = omega arith in
     in_range_some (λ j. is_at (ancestor up (j + 1) (Some x)) x) 0 n (d - 1) (omega arith) (omega arith) (at_is _ x (rw e h))
 
-module _ (parents : List (Option ℕ)) (places : ArePlaces parents) where
+module _ (parents : List (Option ℕ)) (places : AreParentNumbers parents) where
   abbrev up : ℕ → Option ℕ
   up = parent_at parents
 

@@ -7,11 +7,11 @@ use Rattle.std.proofs.lemmas.Int.{ints}
 use Rattle.bit_words.specs.Bits.{rank, select, excess}
 use Rattle.rank_select.proofs.Selects.{selected}
 use Rattle.code_laws.proofs.Apart.{fewer}
-use Rattle.parens.specs.Matching.{is_open, close_of, is_from, is_round, innermost, falling}
+use Rattle.parens.specs.Matching.{is_open, close_of, is_from, is_enclosing, innermost, falling}
 use Rattle.parens.proofs.Balances.{IsBalanced}
 use Rattle.parens.proofs.Arcs.{arc_from, close-arc, open_within}
 use Rattle.parens.proofs.Greatest.{IsGreatest, greatest-find, no_falling-find}
-use Rattle.parens.proofs.Rounds.{IsAbove, round-above, above-round}
+use Rattle.parens.proofs.Enclosing.{IsAbove, round-above, above-round}
 use Rattle.region_tree.specs.Nesting.{opening, parent_number, upward}
 
 -- an opening place is that of the region of its number
@@ -30,19 +30,19 @@ pub parent-at : (bits : List Bool) (x i : ℕ) (o : Option ℕ) → i ≡ openin
 unfolding parent_number
 parent-at bits x i o at is = ap (option_map (rank true bits)) (is ∙ ap (innermost bits) at)
 
-pub round_open : (bits : List Bool) (gap k : ℕ) → is_round bits gap k ≡ true → is_open bits k ≡ true
+pub round_open : (bits : List Bool) (gap k : ℕ) → is_enclosing bits gap k ≡ true → is_open bits k ≡ true
 round_open bits gap k h = (and_parts (is_open bits k) (is_from gap (close_of bits k)) h).0
 
 module _ (bits : List Bool) (b : IsBalanced bits) where
   -- a pair is round itself
-  pub round_self : (i : ℕ) → is_open bits i ≡ true → is_round bits i i ≡ true
+  pub round_self : (i : ℕ) → is_open bits i ≡ true → is_enclosing bits i i ≡ true
   round_self i opens =
       let a = arc_from bits i b opens in
       let from : is_from i (close_of bits i) ≡ true = subst (λ o. is_from i o ≡ true) (sym (close-arc bits i a.0 a.1)) (le-leb i a.0 (omega (arith, a.1.order))) in
       and_from _ _ opens from
 
   -- what is round the innermost pair round a place is what is round that place
-  pub round_step : (i j : ℕ) → i ≤ length bits → j < i → is_round bits i j ≡ true → (k : ℕ) → k < j → is_round bits i k ≡ is_round bits j k
+  pub round_step : (i j : ℕ) → i ≤ length bits → j < i → is_enclosing bits i j ≡ true → (k : ℕ) → k < j → is_enclosing bits i k ≡ is_enclosing bits j k
   round_step i j within l round k h =
       let near = round-above bits i j (omega arith) round in
       tests_agree _ _

@@ -14,7 +14,7 @@ use Rattle.plane_model.specs.Sets.{has, is_distinct}
 use Rattle.plane_model.specs.PlaneMap.{PlaneMap}
 use Rattle.plane_model.specs.Regions.{parent, upward, parents}
 use Rattle.plane_model.specs.Faults.{region_cycle}
-use Rattle.region_tree.specs.Ancestors.{parent_at, ArePlaces, ancestor, comes_back}
+use Rattle.region_tree.specs.Ancestors.{parent_at, AreParentNumbers, ancestor, comes_back}
 use Rattle.region_tree.specs.ByPlace.{AreByPlace}
 use Rattle.region_tree.proofs.Steps.{ancestor-none, ancestor-zero, ancestor-suc, ancestor-within}
 use Rattle.region_tree.proofs.OnCycles.{back-steps, steps-back}

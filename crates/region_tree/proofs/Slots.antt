@@ -33,7 +33,7 @@ module _ (slots : List ℕ) where
   places_later s i l e = range_first (filter (in_slot slots s)) i n l ∙ (let not = ne_eqb (slice_index slots i) s e in rw not refl)
 
   -- from place i on there is none, or the first one and those from there on
-  pub record IsFirst (s i f : ℕ) : Type 0 where
+  pub record IsFirstSlot (s i f : ℕ) : Type 0 where
     pub within : f < n
     pub slot : slice_index slots f ≡ s
     pub rest : places_from slots s i ≡ places_from slots s f
@@ -47,7 +47,7 @@ module _ (slots : List ℕ) where
         places_later s i (omega arith) differ ∙ none_from d s (i + 1) (omega arith) (sym (first_later s i (omega arith) differ) ∙ h)
   ]
 
-  pub some_from : (d s i f : ℕ) → i + d ≡ n → first_from slots s i ≡ Some f → IsFirst s i f
+  pub some_from : (d s i f : ℕ) → i + d ≡ n → first_from slots s i ≡ Some f → IsFirstSlot s i f
   some_from zero s i f e h = let none = range_none (find (in_slot slots s)) i n (omega arith) in absurd (cc)
   some_from (suc d) s i f e h = elim (cases_Bool (slice_index slots i == s)) [
     | inl is ↦

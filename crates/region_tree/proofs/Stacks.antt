@@ -11,7 +11,7 @@ use Rattle.bit_words.proofs.Finds.{find-none}
 use Rattle.parens.specs.Matching.{is_open, innermost, falling, is_balanced, balance_fault, closes_more, or_end}
 use Rattle.parens.proofs.Balances.{IsBalanced}
 use Rattle.parens.proofs.Arcs.{arc_from, arc_to, excess-zero}
-use Rattle.parens.proofs.Rounds.{innermost-first, innermost-end, innermost-past}
+use Rattle.parens.proofs.Enclosing.{innermost-first, innermost-end, innermost-past}
 use Rattle.region_tree.specs.Nesting.{parent_number}
 use Rattle.region_tree.proofs.Opened.{parent-rank}
 use Rattle.region_tree.proofs.Reading.{ends, ones, first, rest, uppers}

@@ -5,7 +5,7 @@ use Rattle.std.specs.List.{range_with_len, list_any}
 use Rattle.std.proofs.lemmas.Bool.{cases_lt}
 use Rattle.std.proofs.lemmas.List.{get_or_past, length-map}
 use Rattle.std.proofs.lemmas.List.FromFn.{get_or-map-range_with_len, length-map-range_with_len, fill_by_all}
-use Rattle.region_tree.specs.Ancestors.{parent_at, ArePlaces, ancestor, ancestors}
+use Rattle.region_tree.specs.Ancestors.{parent_at, AreParentNumbers, ancestor, ancestors}
 
 pub ancestor-none : (up : ℕ → Option ℕ) (n : ℕ) → ancestor up n None ≡ None
 unfolding ancestor
@@ -50,7 +50,7 @@ some_or (Some x) h = (x, refl)
 pub ancestor-before : (up : ℕ → Option ℕ) (i j x : ℕ) (o : Option ℕ) → i ≤ j → ancestor up j o ≡ Some x → (y : ℕ) × (ancestor up i o ≡ Some y)
 ancestor-before up i j x o l h = some_or (ancestor up i o) (λ none. let e = ancestor-past up i j o l none in cc)
 
-module _ (parents : List (Option ℕ)) (places : ArePlaces parents) where
+module _ (parents : List (Option ℕ)) (places : AreParentNumbers parents) where
   step-within : (n p : ℕ) → ((q : ℕ) → q < length parents → ancestor (parent_at parents) n (Some q) ≡ Some p → p < length parents) → (k : ℕ) (o : Option ℕ) → parent_at parents k ≡ o → ancestor (parent_at parents) n o ≡ Some p → p < length parents
   step-within n p more k None e h = let none = ancestor-none (parent_at parents) n in absurd (cc)
   step-within n p more k (Some q) e h = more q (places k q e) h
@@ -67,7 +67,7 @@ module _ (parents : List (Option ℕ)) (places : ArePlaces parents) where
   pub ancestors-at : (s k : ℕ) → k < length parents → parent_at (ancestors parents s) k ≡ ancestor (parent_at parents) s (Some k)
   ancestors-at s k l = get_or-map-range_with_len (λ k. ancestor (parent_at parents) s (Some k)) 0 (length parents) k k None l (omega arith)
 
-  pub ancestors-places : (s : ℕ) → ArePlaces (ancestors parents s)
+  pub ancestors-places : (s : ℕ) → AreParentNumbers (ancestors parents s)
   ancestors-places s k p h = elim (cases_lt k (length parents)) [
     | inl l ↦ let w = ancestor-within s k p l (sym (ancestors-at s k l) ∙ h) in let e = length-ancestors s in omega (arith, w, e)
     | inr g ↦ let past = get_or_past (ancestors parents s) k None (let e = length-ancestors s in omega (arith, e)) in absurd (cc)

@@ -13,7 +13,7 @@ use Rattle.region_tree.specs.Walked.{above, AreForest, bits_in, order_in, step_b
 use Rattle.region_tree.specs.declared.walk.Step.{Step}
 use Rattle.region_tree.specs.declared.walk.Step.TheVariants as step
 use Rattle.region_tree.proofs.Nested.{IsForest, nested-nil, nested-one}
-use Rattle.region_tree.proofs.Slots.{IsFirst, none_from, some_from, places_here}
+use Rattle.region_tree.proofs.Slots.{IsFirstSlot, none_from, some_from, places_here}
 
 -- ---- what is in a filter
 pub filter_passes : (t : ℕ → Bool) (xs : List ℕ) (x : ℕ) → has (filter t xs) x ≡ true → (t x ≡ true) × (has xs x ≡ true)

@@ -8,8 +8,8 @@ abbrev pub parent_at : List (Option ℕ) → ℕ → Option ℕ
 parent_at parents k = slice_index_or parents k None
 
 -- each parent is the number of a place
-abbrev pub ArePlaces : List (Option ℕ) → Type 0
-ArePlaces parents = (k p : ℕ) → parent_at parents k ≡ Some p → p < length parents
+abbrev pub AreParentNumbers : List (Option ℕ) → Type 0
+AreParentNumbers parents = (k p : ℕ) → parent_at parents k ≡ Some p → p < length parents
 
 -- n steps up
 unfoldable pub ancestor : (ℕ → Option ℕ) → ℕ → Option ℕ → Option ℕ

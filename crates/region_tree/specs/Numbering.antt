@@ -11,7 +11,7 @@ use Rattle.region_tree.specs.Nesting.{parent_number}
 use Rattle.region_tree.specs.declared.parts.MemberPlace.{MemberPlace}
 
 -- each region of the map has one number, and its parent is the region of the innermost pair round it
-pub record AreNumbered (m : PlaneMap) (bits : List Bool) (ids : List ℕ) : Type 0 where
+pub record RegionsAreNumbered (m : PlaneMap) (bits : List Bool) (ids : List ℕ) : Type 0 where
   pub balanced : IsTrue (is_balanced bits 0 (length bits))
   pub places : length bits ≡ 2 * length ids
   pub opens : rank true bits (length bits) ≡ length ids

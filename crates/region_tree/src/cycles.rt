@@ -3,7 +3,7 @@
 
 ghost use Rattle.std.specs.Prelude.{◌≡◌, ℕ, ◌+◌, ◌<◌, ◌≤◌, find, length, map, option_and_then, slice_index_or, IfOk, IfSome};
 ghost use Rattle.std.specs.List.{range_with_len};
-ghost use Rattle.region_tree.specs.Ancestors.{ArePlaces, IsFarUp, IsLeastOf, comes_back, lesser, parent_at};
+ghost use Rattle.region_tree.specs.Ancestors.{AreParentNumbers, IsFarUp, IsLeastOf, comes_back, lesser, parent_at};
 
 use std::alloc::{AllocError, Global};
 
@@ -17,7 +17,7 @@ fn beyond(reached: &[Option<u32>], place: Option<u32>) -> Option<u32>
 
 /// The places that twice as many steps lead to.
 fn doubled(alloc: Global, reached: &[Option<u32>]) -> Result<Vec<Option<u32>>, AllocError>
-    requires { ArePlaces reached.now }
+    requires { AreParentNumbers reached.now }
     ensures { IfOk result (λ twice. twice.items ≡ map (option_and_then (parent_at reached.now)) reached.now) }
 {
     let mut twice = Vec::with_capacity(alloc, reached.len())?;
@@ -30,7 +30,7 @@ fn doubled(alloc: Global, reached: &[Option<u32>]) -> Result<Vec<Option<u32>>, A
 /// The places that as many steps up as there are places, or more, lead to.
 fn far_up(alloc: Global, parents: &[Option<u32>]) -> Result<Vec<Option<u32>>, AllocError>
     requires few { length parents.now ≤ 16777216 }
-    requires places { ArePlaces parents.now }
+    requires places { AreParentNumbers parents.now }
     ensures { IfOk result (λ far. IsFarUp parents.now far.items) }
 {
     let mut far = Vec::from_slice(alloc, parents)?;
@@ -67,7 +67,7 @@ fn least(places: &[Option<u32>]) -> Option<u32>
 /// The least place that its own parents lead back to.
 pub fn least_on_cycle(alloc: Global, parents: &[Option<u32>]) -> Result<Option<u32>, AllocError>
     requires few { length parents.now ≤ 16777216 }
-    requires places { ArePlaces parents.now }
+    requires places { AreParentNumbers parents.now }
     ensures { IfOk result (λ place. place ≡ find (comes_back (parent_at parents.now) (length parents.now)) (range_with_len 0 (length parents.now))) }
 {
     Ok(least(&far_up(alloc, parents)?))

@@ -5,7 +5,7 @@ ghost use Rattle.plane_model.specs.InRange.{is_in_range};
 ghost use Rattle.plane_model.specs.Regions.{is_region_forest};
 ghost use Rattle.plane_model.specs.Faults.{region_fault};
 ghost use Rattle.rotation_check.specs.Checked.{Names};
-ghost use Rattle.region_tree.specs.Numbering.{AreMembers, AreNumbered};
+ghost use Rattle.region_tree.specs.Numbering.{AreMembers, RegionsAreNumbered};
 ghost use Rattle.region_tree.specs.Parts.{member_places, region_bits, region_ids};
 ghost use Rattle.region_tree.specs.Tables.{region_map, region_tables};
 
@@ -33,7 +33,7 @@ pub fn build(
     ensures bits { IfOk result (λ p. p.bits.items ≡ region_bits (region_map regions.now members.now faces.now)) }
     ensures ids { IfOk result (λ p. p.ids.items ≡ region_ids (region_map regions.now members.now faces.now)) }
     ensures members { IfOk result (λ p. p.members.items ≡ member_places (region_map regions.now members.now faces.now)) }
-    ensures numbered { IfOk result (λ p. AreNumbered (region_map regions.now members.now faces.now) p.bits.items p.ids.items) }
+    ensures numbered { IfOk result (λ p. RegionsAreNumbered (region_map regions.now members.now faces.now) p.bits.items p.ids.items) }
     ensures faces { IfOk result (λ p. AreMembers (region_map regions.now members.now faces.now) p.ids.items p.members.items) }
     ensures refused { IfErr result (λ e. Names e (region_fault (region_tables regions.now members.now faces.now))) }
     ensures exactly { is_none (region_fault (region_tables regions.now members.now faces.now)) ≡ is_region_forest (region_tables regions.now members.now faces.now) }

@@ -3,7 +3,7 @@ use Rattle.std.proofs.Common.{◌≡◌, ℕ, ◌+◌, ◌<◌, ◌≤◌, inl, 
 use Rattle.std.proofs.lemmas.Bool.{cases_Bool, cases_eq}
 use Rattle.std.proofs.lemmas.List.{length-take-le, length-set, get_or-take, get_or-set_same, get_or-set_other}
 use Rattle.plane_model.specs.Orders.{how_often}
-use Rattle.rotation_check.specs.Counts.{ArePlaces}
+use Rattle.rotation_check.specs.Counts.{ArePlacesOfEach}
 
 pub how_often-most : (xs : List ℕ) (x : ℕ) → how_often xs x ≤ length xs
 how_often-most [] x = omega arith
@@ -16,7 +16,7 @@ how_often-take xs k x h =
     let l = length-take-le k xs (omega arith) in
     omega arith
 
-pub places_next : (vs : List ℕ) (b k : ℕ) (ps : List ℕ) → k < length vs → get_or vs k 0 < b → ArePlaces (take k vs) b ps → ArePlaces (take (k + 1) vs) b (set ps (get_or vs k 0) k)
+pub places_next : (vs : List ℕ) (b k : ℕ) (ps : List ℕ) → k < length vs → get_or vs k 0 < b → ArePlacesOfEach (take k vs) b ps → ArePlacesOfEach (take (k + 1) vs) b (set ps (get_or vs k 0) k)
 places_next vs b k ps h lt old =
     let l = length-take-le (k + 1) vs (omega arith) in
     let l0 = length-take-le k vs (omega arith) in

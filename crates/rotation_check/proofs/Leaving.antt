@@ -13,7 +13,7 @@ use Rattle.plane_model.specs.PlaneMap.{PlaneMap, map_of, signed_edges, leaving, 
 use Rattle.plane_model.specs.Faults.{node_with_face}
 use Rattle.plane_model.proofs.SetLaws.{same_is, same_self}
 use Rattle.rotation_check.specs.Darts.{AreDarts, node_id, signed_edge}
-use Rattle.rotation_check.specs.Counts.{AreCounts}
+use Rattle.rotation_check.specs.Counts.{AreCountsOfEach}
 use Rattle.rotation_check.proofs.DartLists.{dart_edges, number_of, number_of-signed, length-dart_edges, get-dart_edges}
 use Rattle.rotation_check.proofs.EndLemmas.{one_node, one_dart}
 
@@ -80,7 +80,7 @@ face_fits m n k is e = by_case (is_some n.face) k refl is e
     by_case false (suc j) f l q = rw (f, l, lt-ltb 0 (suc j) (omega arith)) refl
 
 -- the same of the row of a loop
-pub face_loop : (t : Rows) (nexts rows counts : List ℕ) (ns : List NodeRow) (k : ℕ) (d : NodeRow) → AreDarts t nexts rows → AreCounts rows (length t.nodes) counts → ns ≡ t.nodes → k < length ns
+pub face_loop : (t : Rows) (nexts rows counts : List ℕ) (ns : List NodeRow) (k : ℕ) (d : NodeRow) → AreDarts t nexts rows → AreCountsOfEach rows (length t.nodes) counts → ns ≡ t.nodes → k < length ns
     → length (leaving (map_of t) (get_or ns k d).id) ≡ get_or counts k 0
 face_loop t nexts rows counts ns k d darts are is h =
     let lt : k < length t.nodes = subst (λ xs. k < length xs) is h in

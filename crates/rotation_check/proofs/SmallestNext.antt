@@ -15,7 +15,7 @@ use Rattle.plane_model.proofs.Sorting.{none_found}
 use Rattle.plane_model.proofs.SortedEdges.{before_rank, not_before, not_before_from, smallest_found}
 use Rattle.plane_model.proofs.RotationFaults.{signed_rows_rise}
 use Rattle.rotation_check.specs.Darts.{AreDarts, signed_edge}
-use Rattle.rotation_check.specs.Counts.{AreCounts}
+use Rattle.rotation_check.specs.Counts.{AreCountsOfEach}
 use Rattle.rotation_check.proofs.DartLists.{dart_place, signed_there}
 use Rattle.rotation_check.proofs.Leaving.{befores-count}
 use Rattle.rotation_check.proofs.Ranges.{signed_width}
@@ -100,7 +100,7 @@ smallest_of_all t nexts rows darts p (Some d) all = smallest_found p (signed_edg
 abbrev pub is_next_of_two : Rows → ℤ → Bool
 is_next_of_two t e = nat_lt 1 (length (filter (λ d. same_edge (next (map_of t) d) e) (signed_edges (map_of t))))
 
-pub twice_at : (t : Rows) (nexts rows befores : List ℕ) → AreDarts t nexts rows → AreCounts nexts (2 * length t.edges) befores → (k : ℕ) → k < 2 * length t.edges → is_next_of_two t (signed_edge t.edges k) ≡ nat_lt 1 (get_or befores k 0)
+pub twice_at : (t : Rows) (nexts rows befores : List ℕ) → AreDarts t nexts rows → AreCountsOfEach nexts (2 * length t.edges) befores → (k : ℕ) → k < 2 * length t.edges → is_next_of_two t (signed_edge t.edges k) ≡ nat_lt 1 (get_or befores k 0)
 twice_at t nexts rows befores darts counts k h = ap (nat_lt 1) (befores-count t nexts rows darts k h ∙ sym (counts.count k h))
 
 pub next_twice_is : (t : Rows) (nexts rows : List ℕ) → AreDarts t nexts rows → (smallest : Option ℤ) → SmallestTo (is_next_of_two t) (signed_edge t.edges) (2 * length t.edges) smallest → next_twice (map_of t) ≡ option_map refusal.NextTwice smallest

@@ -21,7 +21,7 @@ use Rattle.plane_model.proofs.RotationFaults.{none-wrong_end, none-next_twice, n
 use Rattle.plane_model.proofs.RotationOrbits.{next_from_parts, turn_from_next}
 use Rattle.plane_model.proofs.SortedEdges.{rising_apart}
 use Rattle.plane_model.proofs.Sorting.{least_found, none_found, rising-all}
-use Rattle.rotation_check.specs.Counts.{AreCounts, ArePlaces}
+use Rattle.rotation_check.specs.Counts.{AreCountsOfEach, ArePlacesOfEach}
 use Rattle.rotation_check.specs.Darts.{AreDarts, node_id, signed_edge}
 use Rattle.rotation_check.proofs.DartLists.{dart_place, signed_there}
 use Rattle.rotation_check.proofs.EndLemmas.{node_id-get}
@@ -86,7 +86,7 @@ place_of (y ∷ ys) x h = elim (cases_Bool (x == y)) [
 ]
 
 -- the dart that stands for a node leaves it
-pub place_leaves : (t : Rows) (nexts rows counts places : List ℕ) → AreDarts t nexts rows → AreCounts rows (length t.nodes) counts → ArePlaces rows (length t.nodes) places → (nth : ℕ) → nth < length t.nodes → 0 < get_or counts nth 0
+pub place_leaves : (t : Rows) (nexts rows counts places : List ℕ) → AreDarts t nexts rows → AreCountsOfEach rows (length t.nodes) counts → ArePlacesOfEach rows (length t.nodes) places → (nth : ℕ) → nth < length t.nodes → 0 < get_or counts nth 0
     → (get_or places nth 0 < 2 * length t.edges) × (has_edge (leaving (map_of t) (node_id t.nodes nth)) (signed_edge t.edges (get_or places nth 0)) ≡ true)
 place_leaves t nexts rows counts places darts are_counts are_places nth h some =
     let count = are_counts.count nth h in
@@ -99,7 +99,7 @@ place_leaves t nexts rows counts places darts are_counts are_places nth h some =
     let leaves : origin (map_of t) (signed_edge t.edges (get_or places nth 0)) ≡ node_id t.nodes nth = sym n.1 ∙ ap (node_id t.nodes) stands in
     (lt, in_filter same_edges (λ d. origin (map_of t) d == node_id t.nodes nth) (signed_edges (map_of t)) (signed_edge t.edges (get_or places nth 0)) (eq-eqb _ _ leaves) (signed_there t (get_or places nth 0) lt))
 
-pub split_is : (t : Rows) (nexts rows counts places : List ℕ) → AreDarts t nexts rows → AreCounts rows (length t.nodes) counts → ArePlaces rows (length t.nodes) places → Meets (map_of t) → (nth : ℕ) → nth < length t.nodes → 0 < get_or counts nth 0
+pub split_is : (t : Rows) (nexts rows counts places : List ℕ) → AreDarts t nexts rows → AreCountsOfEach rows (length t.nodes) counts → ArePlacesOfEach rows (length t.nodes) places → Meets (map_of t) → (nth : ℕ) → nth < length t.nodes → 0 < get_or counts nth 0
     → is_one_orbit (map_of t) (leaving (map_of t) (node_id t.nodes nth)) ≡ (length (round (map_of t) (signed_edge t.edges (get_or places nth 0))) == get_or counts nth 0)
 split_is t nexts rows counts places darts are_counts are_places ok nth h some =
     let p = place_leaves t nexts rows counts places darts are_counts are_places nth h some in
@@ -110,7 +110,7 @@ none_leave : (m : PlaneMap) (ds : List ℤ) → length ds ≡ 0 → is_one_orbit
 none_leave m [] h = refl
 none_leave m (d ∷ ds) h = absurd (omega arith)
 
-pub split_none : (t : Rows) (nexts rows counts : List ℕ) → AreDarts t nexts rows → AreCounts rows (length t.nodes) counts → (nth : ℕ) → nth < length t.nodes → get_or counts nth 0 ≤ 0
+pub split_none : (t : Rows) (nexts rows counts : List ℕ) → AreDarts t nexts rows → AreCountsOfEach rows (length t.nodes) counts → (nth : ℕ) → nth < length t.nodes → get_or counts nth 0 ≤ 0
     → is_one_orbit (map_of t) (leaving (map_of t) (node_id t.nodes nth)) ≡ true
 split_none t nexts rows counts darts are_counts nth h none =
     let a = leaving-count t nexts rows darts nth h in

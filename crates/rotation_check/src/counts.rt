@@ -1,7 +1,7 @@
 //! How often numbers stand in a list, and where.
 
 ghost use Rattle.std.specs.Prelude.{ℕ, ◌<◌, ◌^◌, length, slice_index, IfOk};
-ghost use Rattle.rotation_check.specs.Counts.{AreCounts, ArePlaces};
+ghost use Rattle.rotation_check.specs.Counts.{AreCountsOfEach, ArePlacesOfEach};
 
 use std::alloc::{AllocError, Global};
 
@@ -9,7 +9,7 @@ use std::alloc::{AllocError, Global};
 pub fn count_each(alloc: Global, values: &[u32], bound: usize) -> Result<Vec<u32>, AllocError>
     requires below { (k : ℕ) → k < length values.now → slice_index values.now k < bound }
     requires short { length values.now < 2 ^ 32 }
-    ensures { IfOk result (λ counts. AreCounts values.now bound counts.items) }
+    ensures { IfOk result (λ counts. AreCountsOfEach values.now bound counts.items) }
 {
     let mut counts = vec![in alloc; 0u32; bound]?;
     for value in values {
@@ -22,7 +22,7 @@ pub fn count_each(alloc: Global, values: &[u32], bound: usize) -> Result<Vec<u32
 pub fn place_each(alloc: Global, values: &[u32], bound: usize) -> Result<Vec<u32>, AllocError>
     requires below { (k : ℕ) → k < length values.now → slice_index values.now k < bound }
     requires short { length values.now < 2 ^ 32 }
-    ensures { IfOk result (λ places. ArePlaces values.now bound places.items) }
+    ensures { IfOk result (λ places. ArePlacesOfEach values.now bound places.items) }
 {
     let mut places = vec![in alloc; 0u32; bound]?;
     for (place, value) in values.iter().enumerate() {

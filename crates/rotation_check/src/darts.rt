@@ -54,7 +54,7 @@ impl<'a> Darts<'a> {
     ghost use Rattle.plane_model.specs.Rotation.{is_one_orbit};
     ghost use Rattle.plane_model.specs.Orders.{Permutes};
     ghost use Rattle.plane_model.specs.Faults.{either_way, first_in, next_twice, node_with_face, split_node, wrong_end};
-    ghost use Rattle.rotation_check.specs.Counts.{AreCounts, ArePlaces};
+    ghost use Rattle.rotation_check.specs.Counts.{AreCountsOfEach, ArePlacesOfEach};
     ghost use Rattle.rotation_check.specs.Darts.{node_id, reverse_dart, signed_edge};
     ghost use Rattle.rotation_check.specs.Numbered.{IsNumbered, map_of_darts};
 
@@ -117,7 +117,7 @@ impl<'a> Darts<'a> {
     /// The smallest signed edge that is the next of two; `befores` says of how many each dart is the next.
     pub fn smallest_next_of_two(&self, befores: &[u32]) -> Option<Refusal>
         requires numbered { IsNumbered self.now }
-        requires counts { AreCounts self.now.next.items (2 * length self.now.tables.now.edges.items) befores.now }
+        requires counts { AreCountsOfEach self.now.next.items (2 * length self.now.tables.now.edges.items) befores.now }
         ensures { result ≡ next_twice (map_of_darts self.now) }
     {
         let mut smallest: Option<Signed> = None;
@@ -152,8 +152,8 @@ impl<'a> Darts<'a> {
         requires ends { first_in (either_way (wrong_end (map_of_darts self.now))) self.now.tables.now.edges.items ≡ None }
         requires once { next_twice (map_of_darts self.now) ≡ None }
         requires row { row < length self.now.tables.now.nodes.items }
-        requires counts { AreCounts self.now.node.items (length self.now.tables.now.nodes.items) counts.now }
-        requires places { ArePlaces self.now.node.items (length self.now.tables.now.nodes.items) places.now }
+        requires counts { AreCountsOfEach self.now.node.items (length self.now.tables.now.nodes.items) counts.now }
+        requires places { ArePlacesOfEach self.now.node.items (length self.now.tables.now.nodes.items) places.now }
         ensures { result ≡ not (is_one_orbit (map_of_darts self.now) (leaving (map_of_darts self.now) (node_id self.now.tables.now.nodes.items row))) }
     {
         counts[row] > 0 && self.round_length(places[row]) != counts[row]
@@ -165,8 +165,8 @@ impl<'a> Darts<'a> {
         requires numbered { IsNumbered self.now }
         requires ends { first_in (either_way (wrong_end (map_of_darts self.now))) self.now.tables.now.edges.items ≡ None }
         requires once { next_twice (map_of_darts self.now) ≡ None }
-        requires counts { AreCounts self.now.node.items (length self.now.tables.now.nodes.items) counts.now }
-        requires places { ArePlaces self.now.node.items (length self.now.tables.now.nodes.items) places.now }
+        requires counts { AreCountsOfEach self.now.node.items (length self.now.tables.now.nodes.items) counts.now }
+        requires places { ArePlacesOfEach self.now.node.items (length self.now.tables.now.nodes.items) places.now }
         ensures { result ≡ split_node (map_of_darts self.now) }
     {
         let mut least: Option<IdNumber> = None;
@@ -183,7 +183,7 @@ impl<'a> Darts<'a> {
     /// leave each node.
     pub fn first_node_with_face(&self, counts: &[u32]) -> Option<Refusal>
         requires numbered { IsNumbered self.now }
-        requires counts { AreCounts self.now.node.items (length self.now.tables.now.nodes.items) counts.now }
+        requires counts { AreCountsOfEach self.now.node.items (length self.now.tables.now.nodes.items) counts.now }
         ensures { result ≡ first_in (node_with_face (map_of_darts self.now)) self.now.tables.now.nodes.items }
     {
         for (row, node) in self.tables.nodes.iter().enumerate() {

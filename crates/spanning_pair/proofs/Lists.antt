@@ -7,7 +7,7 @@ use Rattle.std.specs.Prelude.{not}
 use Rattle.spanning_pair.specs.Darts.{reverse_dart}
 use Rattle.orbits.specs.Components.InComponent.{itself}
 use Rattle.spanning_pair.specs.Walks.{after}
-use Rattle.spanning_pair.specs.Tours.{number_at, flag_at, IsNumberedSystem, AreClean, AreMarked, IsWalkAppended}
+use Rattle.spanning_pair.specs.Tours.{number_at, flag_at, IsNumberedSystem, AreClean, AreMarkedInComponent, IsWalkAppended}
 use Rattle.spanning_pair.proofs.OtherDart.{reverse_below}
 use Rattle.spanning_pair.proofs.ByRule.{is_tree_walk}
 use Rattle.spanning_pair.proofs.Pigeon.{at_most_from}
@@ -195,7 +195,7 @@ module _ (m : ℕ) (next node : ℕ → ℕ) (start : ℕ) (xs0 : List ℕ) (ts0
         walk = rw (grown xs d) tw;
       }
 
-  pub marks_done : d2 ≡ start → AreMarked next node start seen0 visited0
+  pub marks_done : d2 ≡ start → AreMarkedInComponent next node start seen0 visited0
       (set seen (d / 2) true) (set visited (node (reverse_dart d)) true)
   marks_done s =
       let f = flagged_now in
@@ -221,7 +221,7 @@ pub record Stepped (m : ℕ) (next node : ℕ → ℕ) (start : ℕ) (xs0 : List
   pub few : length xs < 2 * m + length xs0
   pub one_more : length xs2 ≡ length xs + 1
   pub done : d2 ≡ start → IsWalkAppended next node start xs0 ts0 fs0 xs2 ts2 fs2
-  pub marks : d2 ≡ start → AreMarked next node start seen0 visited0 seen2 visited2
+  pub marks : d2 ≡ start → AreMarkedInComponent next node start seen0 visited0 seen2 visited2
 
 pub stepped : {m : ℕ} {next node : ℕ → ℕ} {start : ℕ} {xs0 : List ℕ} {ts0 fs0 : List Bool} {xs : List ℕ} {ts fs : List Bool} {d : ℕ}
     {seen0 visited0 seen known visited : List Bool} (xs2 : List ℕ) (ts2 fs2 : List Bool) (edge head : ℕ) (t : Bool) (d2 : ℕ)

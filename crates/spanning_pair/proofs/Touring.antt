@@ -8,7 +8,7 @@ use Rattle.std.proofs.Math.Dec.{eqb}
 use Rattle.std.proofs.Math.ListN.{replicate, length-replicate}
 use Rattle.spanning_pair.specs.Darts.{reverse_dart, InComponent}
 use Rattle.spanning_pair.specs.Walks.{after, IsTreeWalk}
-use Rattle.spanning_pair.specs.Tours.{number_at, flag_at, IsNumberedSystem, AreClean, AreMarked, AreStarts, IsWalkAppended, IsTour}
+use Rattle.spanning_pair.specs.Tours.{number_at, flag_at, IsNumberedSystem, AreClean, AreMarkedInComponent, AreStarts, IsWalkAppended, IsTour}
 use Rattle.spanning_pair.proofs.Pigeon.{at_most_from}
 use Rattle.spanning_pair.proofs.Components.{component_below, component_meet, component_of_edge, component_of_node}
 
@@ -93,7 +93,7 @@ module _ (m nodes : ℕ) (next node : ℕ → ℕ) (starts : List ℕ) (rot : Is
 
   module _ (xs2 : List ℕ) (ts2 fs2 seen2 known2 visited2 : List Bool)
       (a : IsWalkAppended next node (number_at starts k) xs ts fs xs2 ts2 fs2)
-      (b : AreMarked next node (number_at starts k) seen visited seen2 visited2)
+      (b : AreMarkedInComponent next node (number_at starts k) seen visited seen2 visited2)
       (sl : length seen2 ≡ length seen) (kl : length known2 ≡ length known) (vl : length visited2 ≡ length visited) where
     place_kept : (i : ℕ) → i < k + 1 → number_at (ps ++ length xs2 ∷ []) i ≡ number_at ps i
     place_kept i l = get_or_append_left ps (length xs2 ∷ []) 0 i (omega (arith, w.places_len))
@@ -229,7 +229,7 @@ pub touring_step : {m nodes : ℕ} {next node : ℕ → ℕ} {starts : List ℕ}
     → Touring m nodes next node starts k xs ts fs ps seen known visited
     → seen1 ≡ seen → known1 ≡ known → visited1 ≡ visited
     → IsWalkAppended next node (number_at starts k) xs ts fs xs2 ts2 fs2
-    → AreMarked next node (number_at starts k) seen1 visited1 seen2 visited2
+    → AreMarkedInComponent next node (number_at starts k) seen1 visited1 seen2 visited2
     → length seen2 ≡ length seen1 → length known2 ≡ length known1 → length visited2 ≡ length visited1
     → ps2 ≡ ps ++ length xs2 ∷ []
     → (length seen2 ≡ length seen1 → seen3 ≡ seen2) → (length known2 ≡ length known1 → known3 ≡ known2) → (length visited2 ≡ length visited1 → visited3 ≡ visited2)

@@ -20,7 +20,7 @@ pub record AreClean (next node : ℕ → ℕ) (start : ℕ) (seen visited : List
   pub visited_none : (d : ℕ) → InComponent next start d → flag_at visited (node d) ≡ false
 
 -- edges and nodes that are marked were marked before or are of the component of the start
-pub record AreMarked (next node : ℕ → ℕ) (start : ℕ) (seen0 visited0 seen visited : List Bool) : Type 0 where
+pub record AreMarkedInComponent (next node : ℕ → ℕ) (start : ℕ) (seen0 visited0 seen visited : List Bool) : Type 0 where
   pub seen_by : (e : ℕ) → flag_at seen e ≡ true → (flag_at seen0 e ≡ true) ⊎ ((d : ℕ) × InComponent next start d × (d / 2 ≡ e))
   pub visited_by : (v : ℕ) → flag_at visited v ≡ true → (flag_at visited0 v ≡ true) ⊎ ((d : ℕ) × InComponent next start d × (node d ≡ v))
 

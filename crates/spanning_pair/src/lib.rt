@@ -9,7 +9,7 @@ ghost use Rattle.spanning_pair.specs.Darts.{reverse_dart};
 ghost use Rattle.spanning_pair.specs.Faults.{IsTourFault};
 ghost use Rattle.spanning_pair.specs.declared.TourFault.TheVariants as faults;
 ghost use Rattle.spanning_pair.specs.Rotations.{next_dart, node_row, AreComponentStarts};
-ghost use Rattle.spanning_pair.specs.Tours.{number_at, flag_at, AreClean, AreMarked, IsNumberedSystem, IsWalkAppended, IsTour, IsTheTour};
+ghost use Rattle.spanning_pair.specs.Tours.{number_at, flag_at, AreClean, AreMarkedInComponent, IsNumberedSystem, IsWalkAppended, IsTour, IsTheTour};
 ghost use Rattle.spanning_pair.specs.Walks.{after};
 
 use rotation_check::{Rotation, reversed};
@@ -95,7 +95,7 @@ fn walk(
     requires clean { AreClean (next_dart rotation.now) (node_row rotation.now) start seen.old visited.old }
     ensures walk { OnOk result (IsWalkAppended (next_dart rotation.now) (node_row rotation.now) start tour.old.darts.items tour.old.tree.items tour.old.first.items tour.new.darts.items tour.new.tree.items tour.new.first.items) }
     ensures starts { OnOk result (tour.new.starts.items ≡ tour.old.starts.items) }
-    ensures marks { OnOk result (AreMarked (next_dart rotation.now) (node_row rotation.now) start seen.old visited.old seen.new visited.new) }
+    ensures marks { OnOk result (AreMarkedInComponent (next_dart rotation.now) (node_row rotation.now) start seen.old visited.old seen.new visited.new) }
 {
     visited[tail_row(rotation, start) as usize] = true;
     let mut current = start;

@@ -23,7 +23,7 @@ use Rattle.file_laws.specs.Lawful.{is_whole}
 use Rattle.file_laws.specs.MapOfFile.{edge_row, face_at, face_at_place, forward_position, joined_count, node_at, place_of_face, signed_at}
 use Rattle.navigate.specs.Bound.{line_digits}
 use Rattle.navigate.proofs.Facts.{w, place_next}
-use Rattle.table_dump.specs.Places.{face_round, face_with_zero, id_at_rank, members_at_rank, row_at_rank}
+use Rattle.table_dump.specs.Places.{enclosing_face, face_with_zero, id_at_rank, members_at_rank, row_at_rank}
 
 -- the forward position of an edge, from the first one and the edge's bit
 pub forward_first : (c : Contents) (k : Code) (e first : ℕ) (b : Bool) → k ≡ c.code → Some first ≡ first_of_edge k e → b ≡ slice_index_or c.forward e false → b ≡ true → first ≡ forward_position c e
@@ -59,10 +59,10 @@ at_rank v ids place number same l is =
 pub joined_is : (c : Contents) (nodes isolated : ℕ) → nodes ≡ length c.nodes → isolated ≡ length c.isolated → nodes - isolated ≡ joined_count c
 joined_is c nodes isolated a b = rw (a, b) refl
 
-pub face_none : (c : Contents) (x joined : ℕ) → joined ≡ joined_count c → x < joined → None ≡ face_round c x
+pub face_none : (c : Contents) (x joined : ℕ) → joined ≡ joined_count c → x < joined → None ≡ enclosing_face c x
 face_none c x joined e l = let test = lt-ltb x (joined_count c) (omega (arith, e, l)) in rw test refl
 
-pub face_some : (c : Contents) (x joined place face : ℕ) → joined ≡ joined_count c → joined ≤ x → place ≡ slice_index c.isolated (x - joined) → face ≡ face_at_place c place → Some face ≡ face_round c x
+pub face_some : (c : Contents) (x joined place face : ℕ) → joined ≡ joined_count c → joined ≤ x → place ≡ slice_index c.isolated (x - joined) → face ≡ face_at_place c place → Some face ≡ enclosing_face c x
 face_some c x joined place face e l at is =
     let test = le-ltb x (joined_count c) (omega (arith, e, l)) in
     rw test (ap Some (is ∙ ap (face_at_place c) (at ∙ ap (λ j. slice_index c.isolated (x - j)) e)))

@@ -1,25 +1,10 @@
 -- What a shelf holds after the tables of a map were written, where it tells its files.
-use Rattle.std.specs.Prelude.{◌≡◌, ◌≢◌, ◌⊎◌, ℕ, List, [], ◌∷◌, ◌++◌, map, None, Some, ⊤}
+use Rattle.std.specs.Prelude.{◌≡◌, ◌≢◌, ℕ, List, [], ◌∷◌, ◌++◌, map, Some, ⊤}
 use Rattle.topo_base.specs.declared.refusal.Table.TheVariants as table
 use Rattle.plane_model.specs.PlaneMap.{PlaneMap}
 use Rattle.plane_model.specs.Texts.{table_text}
-use Rattle.ports.specs.Outside.{Files, OthersStay}
+use Rattle.ports.specs.Outside.{Files, IsFrontAtMost}
 use Rattle.table_dump.specs.declared.file_names.DumpNames.{DumpNames}
-
--- the name holds these bytes, and all other names are as before
-pub record Holds (name bytes : List ℕ) (before after : Files) : Type 0 where
-  pub held : after name ≡ Some bytes
-  pub others : OthersStay name before after
-
--- the name holds what it held, or nothing, or some bytes at the front of these
-abbrev pub IsFrontAtMost : List ℕ → List ℕ → Files → Files → Type 0
-IsFrontAtMost name bytes before after =
-    (after name ≡ before name) ⊎ (after name ≡ None) ⊎ ((part : List ℕ) × (rest : List ℕ) × (part ++ rest ≡ bytes) × (after name ≡ Some part))
-
--- and all other names are as before
-pub record HoldsFront (name bytes : List ℕ) (before after : Files) : Type 0 where
-  pub held : IsFrontAtMost name bytes before after
-  pub others : OthersStay name before after
 
 -- a file to be written
 pub record NamedText : Type 0 where

@@ -39,5 +39,5 @@ abbrev pub members_at_rank : Contents → ℕ → List MemberRow
 members_at_rank c place = let face = face_with_zero c place in member_row c face (place_of_face c face)
 
 -- the face that contains the node of a number, where the node is isolated
-abbrev pub face_round : Contents → ℕ → Option ℕ
-face_round c node = (node_row c 0 node).face
+abbrev pub enclosing_face : Contents → ℕ → Option ℕ
+enclosing_face c node = (node_row c 0 node).face

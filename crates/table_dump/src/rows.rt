@@ -5,7 +5,7 @@ ghost use Rattle.region_tree.specs.Nesting.{parent_number};
 ghost use Rattle.file_laws.specs.MapOfFile.{face_at_place, place_of_face};
 ghost use Rattle.pemb_file.specs.Served.{contents_of_view};
 ghost use Rattle.navigate.specs.Bound.{line_digits};
-ghost use Rattle.table_dump.specs.Places.{edge_at_rank, face_round, face_with_zero, face_at_rank, members_at_rank, node_at_rank, region_at_rank};
+ghost use Rattle.table_dump.specs.Places.{edge_at_rank, enclosing_face, face_with_zero, face_at_rank, members_at_rank, node_at_rank, region_at_rank};
 
 use crate::positions::{face_beside, forward_position, next_edge, node_left};
 use bit_words::Steps;
@@ -16,9 +16,9 @@ use std::sync::ledger::Ledger;
 use topo_base::IdNumber;
 
 /// The id of the face that contains the node of a number, where the node is isolated.
-fn face_round<C: Ledger>(served: Served<'_>, node: usize, steps: &mut Steps<C>) -> Option<IdNumber>
+fn enclosing_face<C: Ledger>(served: Served<'_>, node: usize, steps: &mut Steps<C>) -> Option<IdNumber>
     requires { node < length (contents_of_view served).nodes }
-    ensures face { result ≡ face_round (contents_of_view served.entry) node }
+    ensures face { result ≡ enclosing_face (contents_of_view served.entry) node }
     ensures grows { steps.old ≤ steps.new }
     ensures cost { steps.new ≤ steps.old + (3 * line_digits (contents_of_view served.entry) + 22) }
 {
@@ -42,7 +42,7 @@ pub(crate) fn node_row<C: Ledger>(served: Served<'_>, place: usize, steps: &mut 
     let number = nodes.number_at(place, steps);
     NodeRow {
         id: nodes.id_of(number, steps),
-        face: face_round(served, number, steps),
+        face: enclosing_face(served, number, steps),
     }
 }
 

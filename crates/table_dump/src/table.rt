@@ -1,13 +1,12 @@
 //! One table, written under its name.
 
 ghost use Rattle.std.specs.Prelude.{◌≡◌, ◌<◌, ◌≤◌, ◌+◌, ◌*◌, [], length, OnErr, OnOk};
-ghost use Rattle.ports.specs.Outside.{CountsWrite, WhereTold};
+ghost use Rattle.ports.specs.Outside.{CountsWrite, WhereTold, Holds, HoldsFront};
 ghost use Rattle.plane_model.specs.Texts.{table_text};
 ghost use Rattle.pemb_file.specs.Served.{contents_of_view};
 ghost use Rattle.navigate.specs.Bound.{served_map};
 ghost use Rattle.table_dump.specs.Lines.{header_line, line_at, row_count};
 ghost use Rattle.table_dump.specs.Prices.{row_price};
-ghost use Rattle.table_dump.specs.Dumped.{Holds, HoldsFront};
 
 use crate::gathered::{Gathered, gather, put_out};
 use crate::line::{Line, edge_line, face_line, member_line, node_line, region_line};

@@ -1,11 +1,11 @@
 -- What is promised of `build`, of `check`, of `trial` and of words of no form, exit by exit.
 use Rattle.std.proofs.Common.{◌≡◌, ℕ, ◌+◌, ◌≤◌, List, [], ◌∷◌, length, refl, sym, subst, append-nil, Ok, Option, Some, None, IfSome, IsTrue, inl, inr}
-use Rattle.ports.specs.Outside.{Files, Rose, WhereTold}
 use Rattle.plane_model.specs.Rows.{Rows}
 use Rattle.plane_model.specs.PlaneMap.{PlaneMap, map_of}
 use Rattle.plane_model.specs.Consistent.{is_consistent}
 use Rattle.plane_model.specs.Texts.{table_text}
 use Rattle.topo_base.specs.declared.refusal.Table.TheVariants as table
+use Rattle.ports.specs.Outside.{Files, Rose, WhereTold, Holds, HoldsFront}
 use Rattle.topo_cli.specs.declared.status.Status.{Status}
 use Rattle.topo_cli.specs.declared.status.Status.TheVariants as status
 use Rattle.topo_cli.specs.declared.load.LoadFault.{LoadFault}
@@ -16,7 +16,7 @@ use Rattle.file_laws.specs.Lawful.{is_lawful}
 use Rattle.file_parts.specs.Upgrade.{IsUpgradeOf}
 use Rattle.table_dump.specs.Dumped.{AreWritten, AreWrittenInPart}
 use Rattle.table_dump.specs.Prices.{most_dump_words}
-use Rattle.topo_cli.specs.Files.{Holds, HoldsFront, IsWhole}
+use Rattle.topo_cli.specs.Files.{IsWhole}
 use Rattle.topo_cli.specs.Tables.{Ending, IsNeeded, IsSubject, OnRead}
 use Rattle.topo_cli.specs.Text.{built_line, dumped_line, status_line, upgraded_line}
 use Rattle.topo_cli.specs.Ended.{IsTold}

@@ -8,7 +8,7 @@ use Rattle.topo_cli.specs.declared.status.Status.TheVariants as status
 use Rattle.topo_cli.specs.Words.{Form}
 use Rattle.topo_cli.specs.Call.{Call}
 use Rattle.topo_cli.specs.Tables.{AreTold, Ending, IsNeeded, IsSubject, OnRead}
-use Rattle.topo_cli.specs.Outcome.{IsComplete, IsFine, IsFirst, IsLongScript, IsPromised, IsScriptFine, IsScriptFineFor, IsScriptTaken, LeavesFiles, OnSubject, ReadsScript, HasForm, Says}
+use Rattle.topo_cli.specs.Outcome.{IsComplete, IsFine, CameFirst, IsLongScript, IsPromised, IsScriptFine, IsScriptFineFor, IsScriptTaken, LeavesFiles, OnSubject, ReadsScript, HasForm, Says}
 
 -- what holds of what is read holds of the tables that are told
 of_told : {A : Type 0} (files : Option Files) (read : Files → Result A Ending) (t : A) (P : Result A Ending → Type 0) → IsSome files → IfSome files (λ held. read held ≡ Ok t) → IfSome files (λ held. P (read held)) → P (Ok t)
@@ -71,8 +71,8 @@ complete c status.ReadFault says = λ fine. elim says [ inl shelf ↦ absurd (fi
 complete c status.WriteFault says = λ fine. elim says.cause [ inl out ↦ absurd (fine.no_out_fault out) | inr shelf ↦ absurd (fine.no_write_fault shelf.rose) ]
 complete c status.Memory says = λ fine. inr refl
 complete c status.Missing says = λ fine.
-    let Q : Option Form → Type 0 = λ o. IfSome o (λ k. (name : List ℕ) × IsNeeded k name × IsFirst c (Ending.Missing name)) in
-    let named : (name : List ℕ) × IsNeeded fine.asked name × IsFirst c (Ending.Missing name) = subst Q fine.form says.name in
+    let Q : Option Form → Type 0 = λ o. IfSome o (λ k. (name : List ℕ) × IsNeeded k name × CameFirst c (Ending.Missing name)) in
+    let named : (name : List ℕ) × IsNeeded fine.asked name × CameFirst c (Ending.Missing name) = subst Q fine.form says.name in
     absurd (first_none c (Ending.Missing named.0) fine named.2.first)
 complete c status.TooLong says = λ fine. elim says [
   | inl held ↦ absurd (first_none c Ending.Long fine held.first)

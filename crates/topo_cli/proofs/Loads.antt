@@ -21,7 +21,7 @@ use Rattle.plane_model.specs.declared.rows.FaceRow.{FaceRow}
 use Rattle.plane_model.specs.declared.rows.RegionRow.{RegionRow}
 use Rattle.plane_model.specs.declared.rows.MemberRow.{MemberRow}
 use Rattle.plane_model.specs.Reading.{node_rows, edge_rows, face_rows, region_rows, member_rows}
-use Rattle.topo_cli.specs.Loading.{Builds, IsEnding, IsSameBuild, Ends, IsStopped, IsSame, MissesNothing, NamesOnly}
+use Rattle.topo_cli.specs.Loading.{Builds, IsMet, IsSameBuild, IsMetWhereTold, IsStopped, IsSame, MissesNothing, NamesOnly}
 use Rattle.map_build.specs.BuildFaults.{Names as NamesFault}
 use Rattle.map_build.specs.declared.fault.BuildFault.{BuildFault}
 use Rattle.map_build.specs.declared.fault.BuildFault.TheVariants as build
@@ -45,13 +45,13 @@ table_rows read None name bytes rows whole h is = tt
 table_rows read (Some files) name bytes rows whole h is = held read files name bytes whole h ∙ ap or_refused is
 
 pub table_refused : {R : Type 0} (read : List ℕ → Result (List R) Refusal) (files : Option Files) (name bytes : List ℕ) (why : CsvFault) (e : LoadFault)
-    → IsWhole files name bytes → length bytes ≤ most_bytes → IsFault why (read bytes) → IsSame why e → Ends files (λ f. table read f name) e
+    → IsWhole files name bytes → length bytes ≤ most_bytes → IsFault why (read bytes) → IsSame why e → IsMetWhereTold files (λ f. table read f name) e
 table_refused read None name bytes why e whole h is same = tt
 table_refused read (Some files) name bytes (csv.Refused r) e whole h is same = rw same (held read files name bytes whole h ∙ ap or_refused is)
 table_refused read (Some files) name bytes csv.Memory e whole h is same = rw same tt
 
 pub table_stopped : {R : Type 0} (read : List ℕ → Result (List R) Refusal) (files : Option Files) (name : List ℕ) (e : LoadFault)
-    → IsStopped files name e → NamesOnly name e → Ends files (λ f. table read f name) e
+    → IsStopped files name e → NamesOnly name e → IsMetWhereTold files (λ f. table read f name) e
 unfolding table
 table_stopped read None name e stopped named = tt
 table_stopped read (Some files) name (fault.Missing said) stopped named = ap (read_or_missing read name) stopped ∙ ap (λ n. Err (Ending.Missing n)) (sym named)
@@ -78,14 +78,14 @@ rows_at read files said name bytes seen rows named same whole h is =
     table_rows read files name bytes rows (subst P named whole) h (ap read (sym same) ∙ is)
 
 pub refused_at : {R : Type 0} (read : List ℕ → Result (List R) Refusal) (files : Option Files) (said name bytes seen : List ℕ) (why : CsvFault) (e : LoadFault)
-    → said ≡ name → seen ≡ bytes → IsWhole files said bytes → length bytes ≤ most_bytes → IsFault why (read seen) → IsSame why e → Ends files (λ f. table read f name) e
+    → said ≡ name → seen ≡ bytes → IsWhole files said bytes → length bytes ≤ most_bytes → IsFault why (read seen) → IsSame why e → IsMetWhereTold files (λ f. table read f name) e
 refused_at read files said name bytes seen why e named seen_is whole h is same =
     let P : List ℕ → Type 0 = λ n. IsWhole files n bytes in
     let Q : List ℕ → Type 0 = λ n. IsFault why (read n) in
     table_refused read files name bytes why e (subst P named whole) h (subst Q seen_is is) same
 
 pub stopped_at : {R : Type 0} (read : List ℕ → Result (List R) Refusal) (files : Option Files) (said name : List ℕ) (e : LoadFault)
-    → said ≡ name → IsStopped files said e → NamesOnly said e → Ends files (λ f. table read f name) e
+    → said ≡ name → IsStopped files said e → NamesOnly said e → IsMetWhereTold files (λ f. table read f name) e
 stopped_at read files said name e named stopped only =
     let P : List ℕ → Type 0 = λ n. IsStopped files n e in
     let Q : List ℕ → Type 0 = λ n. NamesOnly n e in
@@ -107,19 +107,19 @@ optional_rows read None said name bytes seen rows named same whole h is = tt
 optional_rows read (Some files) said name bytes seen rows named same whole h is = held_optional read files name bytes (ap files (sym named) ∙ whole) h ∙ ap or_refused (ap read (sym same) ∙ is)
 
 optional_fault : {R : Type 0} (read : List ℕ → Result (List R) Refusal) (files : Files) (name bytes : List ℕ) (why : CsvFault) (e : LoadFault)
-    → files name ≡ Some bytes → length bytes ≤ most_bytes → IsFault why (read bytes) → IsSame why e → IsEnding e (optional_table read files name)
+    → files name ≡ Some bytes → length bytes ≤ most_bytes → IsFault why (read bytes) → IsSame why e → IsMet e (optional_table read files name)
 optional_fault read files name bytes (csv.Refused r) e whole h is same = rw same (held_optional read files name bytes whole h ∙ ap or_refused is)
 optional_fault read files name bytes csv.Memory e whole h is same = rw same tt
 
 pub optional_refused : {R : Type 0} (read : List ℕ → Result (List R) Refusal) (files : Option Files) (said name bytes seen : List ℕ) (why : CsvFault) (e : LoadFault)
-    → said ≡ name → seen ≡ bytes → IsWhole files said bytes → length bytes ≤ most_bytes → IsFault why (read seen) → IsSame why e → Ends files (λ f. optional_table read f name) e
+    → said ≡ name → seen ≡ bytes → IsWhole files said bytes → length bytes ≤ most_bytes → IsFault why (read seen) → IsSame why e → IsMetWhereTold files (λ f. optional_table read f name) e
 optional_refused read None said name bytes seen why e named same whole h is so = tt
 optional_refused read (Some files) said name bytes seen why e named same whole h is so =
     let P : List ℕ → Type 0 = λ n. IsFault why (read n) in
     optional_fault read files name bytes why e (ap files (sym named) ∙ whole) h (subst P same is) so
 
 optional_stop : {R : Type 0} (read : List ℕ → Result (List R) Refusal) (files : Option Files) (name : List ℕ) (e : LoadFault)
-    → IsStopped files name e → MissesNothing e → Ends files (λ f. optional_table read f name) e
+    → IsStopped files name e → MissesNothing e → IsMetWhereTold files (λ f. optional_table read f name) e
 unfolding optional_table
 optional_stop read None name e stopped named = tt
 optional_stop read (Some files) name (fault.Missing said) stopped named = absurd named
@@ -130,7 +130,7 @@ optional_stop read (Some files) name (fault.Unlawful g) stopped named = absurd s
 optional_stop read (Some files) name fault.Memory stopped named = tt
 
 pub optional_stopped : {R : Type 0} (read : List ℕ → Result (List R) Refusal) (files : Option Files) (said name : List ℕ) (e : LoadFault)
-    → said ≡ name → IsStopped files said e → MissesNothing e → Ends files (λ f. optional_table read f name) e
+    → said ≡ name → IsStopped files said e → MissesNothing e → IsMetWhereTold files (λ f. optional_table read f name) e
 optional_stopped read files said name e named stopped nothing =
     let P : List ℕ → Type 0 = λ n. IsStopped files n e in
     optional_stop read files name e (subst P named stopped) nothing
@@ -144,7 +144,7 @@ loaded_rows None dir nodes edges faces regions members n e f r m = tt
 loaded_rows (Some files) dir nodes edges faces regions members n e f r m = rw (n, e, f, r, m) refl
 
 -- an ending of one table is that of all
-ended : {A B : Type 0} (e : LoadFault) (r : Result A Ending) (next : A → Result B Ending) → IsEnding e r → IsEnding e (r >>= next)
+ended : {A B : Type 0} (e : LoadFault) (r : Result A Ending) (next : A → Result B Ending) → IsMet e r → IsMet e (r >>= next)
 ended (fault.Missing name) r next is = rw is refl
 ended fault.ReadFault r next is = tt
 ended fault.TooLong r next is = rw is refl
@@ -152,34 +152,34 @@ ended (fault.Refused why) r next is = rw is refl
 ended (fault.Unlawful why) r next is = rw is refl
 ended fault.Memory r next is = tt
 
-pub ends_at_nodes : (files : Option Files) (dir : List ℕ) (e : LoadFault) → Ends files (λ f. table node_rows f (node_table dir)) e → Ends files (λ f. loaded f dir) e
+pub ends_at_nodes : (files : Option Files) (dir : List ℕ) (e : LoadFault) → IsMetWhereTold files (λ f. table node_rows f (node_table dir)) e → IsMetWhereTold files (λ f. loaded f dir) e
 unfolding loaded
 ends_at_nodes None dir e is = tt
 ends_at_nodes (Some files) dir e is = ended e (table node_rows files (node_table dir)) _ is
 
 pub ends_at_edges : (files : Option Files) (dir : List ℕ) (nodes : List NodeRow) (e : LoadFault)
-    → IfSome files (λ f. table node_rows f (node_table dir) ≡ Ok nodes) → Ends files (λ f. table edge_rows f (edge_table dir)) e → Ends files (λ f. loaded f dir) e
+    → IfSome files (λ f. table node_rows f (node_table dir) ≡ Ok nodes) → IsMetWhereTold files (λ f. table edge_rows f (edge_table dir)) e → IsMetWhereTold files (λ f. loaded f dir) e
 unfolding loaded
 ends_at_edges None dir nodes e n is = tt
 ends_at_edges (Some files) dir nodes e n is = rw n (ended e (table edge_rows files (edge_table dir)) _ is)
 
 pub ends_at_faces : (files : Option Files) (dir : List ℕ) (nodes : List NodeRow) (edges : List EdgeRow) (e : LoadFault)
     → IfSome files (λ f. table node_rows f (node_table dir) ≡ Ok nodes) → IfSome files (λ f. table edge_rows f (edge_table dir) ≡ Ok edges)
-    → Ends files (λ f. table face_rows f (face_table dir)) e → Ends files (λ f. loaded f dir) e
+    → IsMetWhereTold files (λ f. table face_rows f (face_table dir)) e → IsMetWhereTold files (λ f. loaded f dir) e
 unfolding loaded
 ends_at_faces None dir nodes edges e n k is = tt
 ends_at_faces (Some files) dir nodes edges e n k is = rw (n, k) (ended e (table face_rows files (face_table dir)) _ is)
 
 pub ends_at_regions : (files : Option Files) (dir : List ℕ) (nodes : List NodeRow) (edges : List EdgeRow) (faces : List FaceRow) (e : LoadFault)
     → IfSome files (λ f. table node_rows f (node_table dir) ≡ Ok nodes) → IfSome files (λ f. table edge_rows f (edge_table dir) ≡ Ok edges) → IfSome files (λ f. table face_rows f (face_table dir) ≡ Ok faces)
-    → Ends files (λ f. optional_table region_rows f (region_table dir)) e → Ends files (λ f. loaded f dir) e
+    → IsMetWhereTold files (λ f. optional_table region_rows f (region_table dir)) e → IsMetWhereTold files (λ f. loaded f dir) e
 unfolding loaded
 ends_at_regions None dir nodes edges faces e n k f is = tt
 ends_at_regions (Some files) dir nodes edges faces e n k f is = rw (n, k, f) (ended e (optional_table region_rows files (region_table dir)) _ is)
 
 pub ends_at_members : (files : Option Files) (dir : List ℕ) (nodes : List NodeRow) (edges : List EdgeRow) (faces : List FaceRow) (regions : List RegionRow) (e : LoadFault)
     → IfSome files (λ f. table node_rows f (node_table dir) ≡ Ok nodes) → IfSome files (λ f. table edge_rows f (edge_table dir) ≡ Ok edges) → IfSome files (λ f. table face_rows f (face_table dir) ≡ Ok faces)
-    → IfSome files (λ f. optional_table region_rows f (region_table dir) ≡ Ok regions) → Ends files (λ f. optional_table member_rows f (member_table dir)) e → Ends files (λ f. loaded f dir) e
+    → IfSome files (λ f. optional_table region_rows f (region_table dir) ≡ Ok regions) → IsMetWhereTold files (λ f. optional_table member_rows f (member_table dir)) e → IsMetWhereTold files (λ f. loaded f dir) e
 unfolding loaded
 ends_at_members None dir nodes edges faces regions e n k f r is = tt
 ends_at_members (Some files) dir nodes edges faces regions e n k f r is = rw (n, k, f, r) (ended e (optional_table member_rows files (member_table dir)) _ is)
@@ -190,17 +190,17 @@ unfolding checked
 checked_is t r consistent = let fine : first_fault t ≡ None = None_from _ _ (none-first_fault t r) consistent in rw fine refl
 
 -- the tables of a grid are refused
-pub ends_at_grid : (t : Rows) (why : BuildFault) (e : LoadFault) → NamesFault why (first_fault t) → IsSameBuild why e → IsEnding e (checked t)
+pub ends_at_grid : (t : Rows) (why : BuildFault) (e : LoadFault) → NamesFault why (first_fault t) → IsSameBuild why e → IsMet e (checked t)
 unfolding checked
 ends_at_grid t (build.Refused r) e is same = rw (same, is) refl
 ends_at_grid t build.Memory e is same = rw same tt
 
-pub ends_at_load : (files : Option Files) (dir : List ℕ) (e : LoadFault) → Ends files (λ f. loaded f dir) e → Ends files (λ f. served f dir) e
+pub ends_at_load : (files : Option Files) (dir : List ℕ) (e : LoadFault) → IsMetWhereTold files (λ f. loaded f dir) e → IsMetWhereTold files (λ f. served f dir) e
 ends_at_load None dir e is = tt
 ends_at_load (Some files) dir e is = ended e (loaded files dir) checked is
 
 pub ends_at_build : (files : Option Files) (dir : List ℕ) (t : Rows) (why : BuildFault) (e : LoadFault)
-    → IfSome files (λ f. loaded f dir ≡ Ok t) → NamesFault why (first_fault t) → IsSameBuild why e → Ends files (λ f. served f dir) e
+    → IfSome files (λ f. loaded f dir ≡ Ok t) → NamesFault why (first_fault t) → IsSameBuild why e → IsMetWhereTold files (λ f. served f dir) e
 unfolding checked
 ends_at_build None dir t why e l is same = tt
 ends_at_build (Some files) dir t (build.Refused r) e l is same = rw (same, l, is) refl
@@ -216,7 +216,7 @@ builds files dir t image l r consistent is = record { tables = t; are = are file
     are (Some files) l = rw l (checked_is t r consistent)
 
 -- what stopped the reading of a file
-stopped_file : (files : Option Files) (name : List ℕ) (e : LoadFault) → IsStopped files name e → NamesOnly name e → Ends files (λ f. opened f name) e
+stopped_file : (files : Option Files) (name : List ℕ) (e : LoadFault) → IsStopped files name e → NamesOnly name e → IsMetWhereTold files (λ f. opened f name) e
 unfolding opened
 stopped_file None name e stopped named = tt
 stopped_file (Some files) name (fault.Missing said) stopped named = ap (opened_or_missing name) stopped ∙ ap (λ n. Err (Ending.Missing n)) (sym named)
@@ -226,7 +226,7 @@ stopped_file (Some files) name (fault.Refused r) stopped named = absurd stopped
 stopped_file (Some files) name (fault.Unlawful g) stopped named = absurd stopped
 stopped_file (Some files) name fault.Memory stopped named = tt
 
-pub file_stopped : (files : Option Files) (said name : List ℕ) (e : LoadFault) → said ≡ name → IsStopped files said e → NamesOnly said e → Ends files (λ f. opened f name) e
+pub file_stopped : (files : Option Files) (said name : List ℕ) (e : LoadFault) → said ≡ name → IsStopped files said e → NamesOnly said e → IsMetWhereTold files (λ f. opened f name) e
 file_stopped files said name e named stopped only =
     let P : List ℕ → Type 0 = λ n. IsStopped files n e in
     let Q : List ℕ → Type 0 = λ n. NamesOnly n e in
@@ -238,7 +238,7 @@ unfolding opened
 opened_is files name bytes is h = ap (opened_or_missing name) is ∙ rw (le-ltb most_bytes (length bytes) h) refl
 
 pub file_unlawful : (files : Option Files) (name bytes seen : List ℕ) (e : FileFault) → seen ≡ bytes → IsWhole files name bytes → length bytes ≤ most_bytes → file_fault seen ≡ Some e
-    → Ends files (λ f. opened f name) (fault.Unlawful e)
+    → IsMetWhereTold files (λ f. opened f name) (fault.Unlawful e)
 file_unlawful None name bytes seen e same whole h is = tt
 file_unlawful (Some files) name bytes seen e same whole h is = opened_is files name bytes whole h ∙ ap (unless_unlawful bytes) (ap file_fault (sym same) ∙ is)
 
@@ -251,6 +251,6 @@ file_lawful (Some files) name bytes seen same whole h is =
 
 -- the same of the results of a call that was handed this name
 pub file_ends : {A : Type 0} (files : Option Files) (said name : List ℕ) (r : Result A LoadFault) → said ≡ name → IfErr r (IsStopped files said) → IfErr r (NamesOnly said)
-    → IfErr r (Ends files (λ f. opened f name))
+    → IfErr r (IsMetWhereTold files (λ f. opened f name))
 file_ends files said name (Ok x) same stopped named = tt
 file_ends files said name (Err e) same stopped named = file_stopped files said name e same stopped named

@@ -14,8 +14,8 @@ use Rattle.topo_cli.specs.declared.status.Status.TheVariants as status
 use Rattle.topo_cli.specs.declared.load.LoadFault.{LoadFault}
 use Rattle.topo_cli.specs.declared.load.LoadFault.TheVariants as fault
 use Rattle.topo_cli.specs.Ended.{EndsLoading}
-use Rattle.topo_cli.specs.Loading.{IsEnding, IsShown}
-use Rattle.topo_cli.specs.Outcome.{ChecksTables, HasForm, HoldsFolder, HoldsFolderPart, HoldsImage, HoldsPart, HoldsUpgrade, HoldsUpgradePart, IsFirst, IsPromised, IsScriptTaken, IsUnread, IsUnreadUnlessServed, KeepsFiles, LeavesFiles, LeavesPart, LeavesWritten, OnSubject, OpensFile, ReadsShelf, ScriptWaits, Wrote, WrotePartOf, most_taken}
+use Rattle.topo_cli.specs.Loading.{IsMet, ShowsInCounts}
+use Rattle.topo_cli.specs.Outcome.{ChecksTables, HasForm, HoldsFolder, HoldsFolderPart, HoldsImage, HoldsPart, HoldsUpgrade, HoldsUpgradePart, CameFirst, IsPromised, IsScriptTaken, IsUnread, IsUnreadUnlessServed, KeepsFiles, LeavesFiles, LeavesPart, LeavesWritten, OnSubject, OpensFile, ReadsShelf, ScriptWaits, Wrote, WrotePartOf, most_taken}
 use Rattle.topo_cli.proofs.Complete.{promised}
 use Rattle.topo_cli.proofs.Taken.{took_nothing}
 
@@ -183,18 +183,18 @@ wanting c k a same =
     (script_unread c status.Memory a.unread) (leaves c status.Memory c.form tt a.kept) a.counted
 
 -- what first kept the call from going on
-first_is : (c : Call) (k : Form) (e : Ending) → c.form ≡ Some k → OnRead c.shelf.files_before k (λ read. read ≡ Err e) → Wrote c (status_line e) → IsFirst c e
+first_is : (c : Call) (k : Form) (e : Ending) → c.form ≡ Some k → OnRead c.shelf.files_before k (λ read. read ≡ Err e) → Wrote c (status_line e) → CameFirst c e
 first_is c k e form first wrote = record { wrote = wrote; first = on_subject c k (λ _ read. read ≡ Err e) form first }
 
 -- the tables or the file can't be loaded, and that is told
-pub not_loaded : (c : Call) (k : Form) (e : LoadFault) (s : Status) → Early c k → OnRead c.shelf.files_before k (IsEnding e) → Fits k e
-    → IsShown e c.shelf.misses_before c.shelf.misses_after c.shelf.faults_before c.shelf.faults_after → EndsLoading e s c.out → IsPromised c s
+pub not_loaded : (c : Call) (k : Form) (e : LoadFault) (s : Status) → Early c k → OnRead c.shelf.files_before k (IsMet e) → Fits k e
+    → ShowsInCounts e c.shelf.misses_before c.shelf.misses_after c.shelf.faults_before c.shelf.faults_after → EndsLoading e s c.out → IsPromised c s
 not_loaded c k (fault.Missing name) s a ends fits shown tells = elim tells [
   | inl written ↦ elim written [
     | inl said ↦ subst (IsPromised c) (sym said.0) (promised c status.Missing (record {
       form = some_form c k a.form;
       cause = shown;
-      name = at_form c k (λ x. (n : List ℕ) × IsNeeded x n × IsFirst c (Ending.Missing n)) a.form (string_bytes name, fits, first_is c k (Ending.Missing (string_bytes name)) a.form ends said.1);
+      name = at_form c k (λ x. (n : List ℕ) × IsNeeded x n × CameFirst c (Ending.Missing n)) a.form (string_bytes name, fits, first_is c k (Ending.Missing (string_bytes name)) a.form ends said.1);
       unread = a.unread;
     }) (script_unread c status.Missing a.unread) (leaves c status.Missing c.form tt a.kept) a.counted)
     | inr failed ↦ subst (IsPromised c) (sym failed.0) (unwritten c k (Ending.Missing (string_bytes name)) a ends failed.2 failed.1)

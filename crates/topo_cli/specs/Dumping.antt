@@ -4,7 +4,7 @@ use Rattle.topo_cli.specs.Words.{node_table, edge_table, face_table, region_tabl
 use Rattle.topo_cli.specs.declared.dumping.TableNames.{TableNames}
 
 -- they are those of a folder's tables
-pub record AreNamesOf (dir : List ℕ) (names : TableNames) : Type 0 where
+pub record AreTableNames (dir : List ℕ) (names : TableNames) : Type 0 where
   pub node : string_bytes names.node ≡ node_table dir
   pub edge : string_bytes names.edge ≡ edge_table dir
   pub face : string_bytes names.face ≡ face_table dir

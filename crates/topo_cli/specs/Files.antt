@@ -1,6 +1,6 @@
 -- What is read of a file and what is written to it, where the shelf tells it.
-use Rattle.std.specs.Prelude.{◌≡◌, ◌⊎◌, ℕ, ◌<◌, List, ◌++◌, length, Option, Some, None, ⊤}
-use Rattle.ports.specs.Outside.{Files, OthersStay}
+use Rattle.std.specs.Prelude.{◌≡◌, ℕ, ◌<◌, List, ◌++◌, length, Option, Some, None, ⊤}
+use Rattle.ports.specs.Outside.{Files}
 use Rattle.topo_cli.specs.Limits.{most_bytes}
 
 -- these are the bytes of the file
@@ -17,13 +17,3 @@ IsLongFile (Some files) name = (bytes : List ℕ) × (files name ≡ Some bytes)
 abbrev pub IsFront : Option Files → List ℕ → List ℕ → Type 0
 IsFront None name bytes = ⊤
 IsFront (Some files) name bytes = 0 < length bytes → (rest : List ℕ) × (files name ≡ Some (bytes ++ rest))
-
--- the name holds these bytes, and all other names are as before
-pub record Holds (name bytes : List ℕ) (before after : Files) : Type 0 where
-  pub held : after name ≡ Some bytes
-  pub others : OthersStay name before after
-
--- the name holds what it held, or nothing, or some bytes at the front of these, and all other names are as before
-pub record HoldsFront (name bytes : List ℕ) (before after : Files) : Type 0 where
-  pub held : (after name ≡ before name) ⊎ (after name ≡ None) ⊎ ((part : List ℕ) × (rest : List ℕ) × (part ++ rest ≡ bytes) × (after name ≡ Some part))
-  pub others : OthersStay name before after

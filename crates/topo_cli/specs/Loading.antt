@@ -15,26 +15,26 @@ use Rattle.topo_cli.specs.declared.load.LoadFault.{LoadFault}
 use Rattle.topo_cli.specs.declared.load.LoadFault.TheVariants as fault
 
 -- this is what was met, where that is no want of memory and no failed read
-abbrev pub IsEnding : {A : Type 0} → LoadFault → Result A Ending → Type 0
-IsEnding (fault.Missing name) read = read ≡ Err (Ending.Missing (string_bytes name))
-IsEnding fault.ReadFault read = ⊤
-IsEnding fault.TooLong read = read ≡ Err Ending.Long
-IsEnding (fault.Refused e) read = read ≡ Err (Ending.Refused e)
-IsEnding (fault.Unlawful e) read = read ≡ Err (Ending.Unlawful e)
-IsEnding fault.Memory read = ⊤
+abbrev pub IsMet : {A : Type 0} → LoadFault → Result A Ending → Type 0
+IsMet (fault.Missing name) read = read ≡ Err (Ending.Missing (string_bytes name))
+IsMet fault.ReadFault read = ⊤
+IsMet fault.TooLong read = read ≡ Err Ending.Long
+IsMet (fault.Refused e) read = read ≡ Err (Ending.Refused e)
+IsMet (fault.Unlawful e) read = read ≡ Err (Ending.Unlawful e)
+IsMet fault.Memory read = ⊤
 
 -- the same, where the files are told
-abbrev pub Ends : {A : Type 0} → Option Files → (Files → Result A Ending) → LoadFault → Type 0
-Ends files read e = IfSome files (λ held. IsEnding e (read held))
+abbrev pub IsMetWhereTold : {A : Type 0} → Option Files → (Files → Result A Ending) → LoadFault → Type 0
+IsMetWhereTold files read e = IfSome files (λ held. IsMet e (read held))
 
 -- the count that shows it rose
-abbrev pub IsShown : LoadFault → ℕ → ℕ → ℕ → ℕ → Type 0
-IsShown (fault.Missing name) misses misses' faults faults' = Rose misses misses'
-IsShown fault.ReadFault misses misses' faults faults' = Rose faults faults'
-IsShown fault.TooLong misses misses' faults faults' = ⊤
-IsShown (fault.Refused e) misses misses' faults faults' = ⊤
-IsShown (fault.Unlawful e) misses misses' faults faults' = ⊤
-IsShown fault.Memory misses misses' faults faults' = ⊤
+abbrev pub ShowsInCounts : LoadFault → ℕ → ℕ → ℕ → ℕ → Type 0
+ShowsInCounts (fault.Missing name) misses misses' faults faults' = Rose misses misses'
+ShowsInCounts fault.ReadFault misses misses' faults faults' = Rose faults faults'
+ShowsInCounts fault.TooLong misses misses' faults faults' = ⊤
+ShowsInCounts (fault.Refused e) misses misses' faults faults' = ⊤
+ShowsInCounts (fault.Unlawful e) misses misses' faults faults' = ⊤
+ShowsInCounts fault.Memory misses misses' faults faults' = ⊤
 
 -- what is missing is this name, and no file is unlawful
 abbrev pub NamesOnly : List ℕ → LoadFault → Type 0

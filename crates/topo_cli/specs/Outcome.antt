@@ -306,7 +306,7 @@ pub record IsUsage (c : Call) : Type 0 where
   pub unread : IsUnread c
 
 -- what came first is this, and its line was written
-pub record IsFirst (c : Call) (e : Ending) : Type 0 where
+pub record CameFirst (c : Call) (e : Ending) : Type 0 where
   pub wrote : Wrote c (status_line e)
   pub first : OnSubject c (λ k read. read ≡ Err e)
 
@@ -314,19 +314,19 @@ pub record IsFirst (c : Call) (e : Ending) : Type 0 where
 pub record IsMissing (c : Call) : Type 0 where
   pub form : IsSome c.form
   pub cause : Rose c.shelf.misses_before c.shelf.misses_after
-  pub name : IfSome c.form (λ k. (name : List ℕ) × IsNeeded k name × IsFirst c (Ending.Missing name))
+  pub name : IfSome c.form (λ k. (name : List ℕ) × IsNeeded k name × CameFirst c (Ending.Missing name))
   pub unread : IsUnread c
 
 -- the tables are refused
 pub record AreTablesRefused (c : Call) : Type 0 where
   pub form : HasForm ChecksTables c.form
-  pub why : (e : Refusal) × IsFirst c (Ending.Refused e)
+  pub why : (e : Refusal) × CameFirst c (Ending.Refused e)
   pub unread : IsUnread c
 
 -- the file is refused
 pub record IsFileRefused (c : Call) : Type 0 where
   pub form : HasForm OpensFile c.form
-  pub why : (e : FileFault) × IsFirst c (Ending.Unlawful e)
+  pub why : (e : FileFault) × CameFirst c (Ending.Unlawful e)
   pub unread : IsUnread c
 
 -- a read of the shelf failed

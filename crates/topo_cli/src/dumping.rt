@@ -5,7 +5,7 @@ ghost use Rattle.ports.specs.Outside.{Rose, WhereTold};
 ghost use Rattle.navigate.specs.Bound.{served_map};
 ghost use Rattle.table_dump.specs.Dumped.{AreWritten, AreWrittenInPart};
 ghost use Rattle.table_dump.specs.Prices.{most_dump_words};
-ghost use Rattle.topo_cli.specs.Dumping.{AreNamesOf};
+ghost use Rattle.topo_cli.specs.Dumping.{AreTableNames};
 ghost use Rattle.topo_cli.specs.Outcome.{folder_of};
 
 use bit_words::Steps;
@@ -27,7 +27,7 @@ pub struct TableNames {
 
 /// The names of a folder's tables.
 pub fn table_names(alloc: Global, dir: &str) -> Result<TableNames, AllocError>
-    ensures { IfOk result (AreNamesOf dir.now) }
+    ensures { IfOk result (AreTableNames dir.now) }
 {
     let node = format!(in alloc; "{dir}/node.csv")?;
     let edge = format!(in alloc; "{dir}/edge.csv")?;
@@ -51,7 +51,7 @@ pub fn write_tables<H: Shelf, L: Ledger>(
     shelf: &mut H,
     steps: &mut Steps<L>,
 ) -> Result<(), Failed>
-    requires { AreNamesOf dir.now names.now }
+    requires { AreTableNames dir.now names.now }
     ensures written { OnOk result (WhereTold (AreWritten (folder_of dir.now (served_map served.entry))) (H.files shelf.old) (H.files shelf.new)) }
     ensures part { OnErr result (WhereTold (AreWrittenInPart (folder_of dir.now (served_map served.entry))) (H.files shelf.old) (H.files shelf.new)) }
     ensures rose { OnErr result (Rose (H.write_faults shelf.old) (H.write_faults shelf.new)) }

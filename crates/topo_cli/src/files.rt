@@ -1,8 +1,8 @@
 //! Whole files of a shelf, read and written.
 
 ghost use Rattle.std.specs.Prelude.{◌≡◌, ◌≤◌, IfOk, length, OnErr, OnOk, IsErrOf};
-ghost use Rattle.ports.specs.Outside.{IsNotHeld, OthersStay, Rose, WhereTold};
-ghost use Rattle.topo_cli.specs.Files.{Holds, HoldsFront, IsLongFile, IsWhole};
+ghost use Rattle.ports.specs.Outside.{IsNotHeld, OthersStay, Rose, WhereTold, Holds, HoldsFront};
+ghost use Rattle.topo_cli.specs.Files.{IsLongFile, IsWhole};
 ghost use Rattle.topo_cli.specs.Limits.{most_bytes};
 
 use ports::{Failed, Shelf, ShelfFault};

@@ -7,7 +7,7 @@ ghost use Rattle.plane_model.specs.InRange.{is_edge_in_range, is_face_id, is_id,
 ghost use Rattle.plane_model.specs.Reading.{edge_rows, face_rows, member_rows, node_rows, region_rows};
 ghost use Rattle.plane_model.specs.Rows.{rows_of};
 ghost use Rattle.topo_cli.specs.Files.{IsWhole};
-ghost use Rattle.topo_cli.specs.Loading.{Builds, Ends, IsShown, IsStopped, MissesNothing, NamesFile, NamesNeeded, NamesOnly};
+ghost use Rattle.topo_cli.specs.Loading.{Builds, IsMetWhereTold, ShowsInCounts, IsStopped, MissesNothing, NamesFile, NamesNeeded, NamesOnly};
 ghost use Rattle.topo_cli.specs.Limits.{most_bytes};
 ghost use Rattle.topo_cli.specs.Tables.{loaded, opened, optional_table, served, table};
 ghost use Rattle.topo_cli.specs.Words.{edge_table, face_table, member_table, node_table, region_table};
@@ -84,7 +84,7 @@ pub fn held_bytes<H: Shelf>(
     ensures short { IfOk result (λ bytes. length bytes.items ≤ most_bytes) }
     ensures named { IfErr result (NamesOnly (string_bytes name)) }
     ensures stopped { IfErr result (IsStopped (H.files shelf.old) (string_bytes name)) }
-    ensures shown { IfErr result (λ e. IsShown e (H.misses shelf.old) (H.misses shelf.new) (H.faults shelf.old) (H.faults shelf.new)) }
+    ensures shown { IfErr result (λ e. ShowsInCounts e (H.misses shelf.old) (H.misses shelf.new) (H.faults shelf.old) (H.faults shelf.new)) }
     ensures kept { H.files shelf.new ≡ H.files shelf.old }
     ensures never_falls { H.faults shelf.old ≤ H.faults shelf.new }
     ensures misses_never_fall { H.misses shelf.old ≤ H.misses shelf.new }
@@ -109,7 +109,7 @@ fn optional_bytes<H: Shelf>(
     ensures short { IfOk result (λ found. IfSome found (λ bytes. length bytes.items ≤ most_bytes)) }
     ensures named { IfErr result MissesNothing }
     ensures stopped { IfErr result (IsStopped (H.files shelf.old) (string_bytes name)) }
-    ensures shown { IfErr result (λ e. IsShown e (H.misses shelf.old) (H.misses shelf.new) (H.faults shelf.old) (H.faults shelf.new)) }
+    ensures shown { IfErr result (λ e. ShowsInCounts e (H.misses shelf.old) (H.misses shelf.new) (H.faults shelf.old) (H.faults shelf.new)) }
     ensures kept { H.files shelf.new ≡ H.files shelf.old }
     ensures never_falls { H.faults shelf.old ≤ H.faults shelf.new }
     ensures misses_never_fall { H.misses shelf.old ≤ H.misses shelf.new }
@@ -127,9 +127,9 @@ fn load_nodes<H: Shelf>(alloc: Global, shelf: &mut H, dir: &str) -> Result<Vec<N
     ensures rows { IfOk result (λ rows. IfSome (H.files shelf.old) (λ files. table node_rows files (node_table dir.now) ≡ Ok rows.items)) }
     ensures in_range { IfOk result (λ rows. IsTrue (list_all (λ r. is_id r.id && is_none_or is_face_id r.face) rows.items)) }
     ensures few { IfOk result (λ rows. length rows.items ≤ 16_777_216) }
-    ensures ends { IfErr result (Ends (H.files shelf.old) (λ files. table node_rows files (node_table dir.now))) }
+    ensures ends { IfErr result (IsMetWhereTold (H.files shelf.old) (λ files. table node_rows files (node_table dir.now))) }
     ensures named { IfErr result (NamesOnly (node_table dir.now)) }
-    ensures shown { IfErr result (λ e. IsShown e (H.misses shelf.old) (H.misses shelf.new) (H.faults shelf.old) (H.faults shelf.new)) }
+    ensures shown { IfErr result (λ e. ShowsInCounts e (H.misses shelf.old) (H.misses shelf.new) (H.faults shelf.old) (H.faults shelf.new)) }
     ensures kept { H.files shelf.new ≡ H.files shelf.old }
     ensures never_falls { H.faults shelf.old ≤ H.faults shelf.new }
     ensures misses_never_fall { H.misses shelf.old ≤ H.misses shelf.new }
@@ -145,9 +145,9 @@ fn load_edges<H: Shelf>(alloc: Global, shelf: &mut H, dir: &str) -> Result<Vec<E
     ensures rows { IfOk result (λ rows. IfSome (H.files shelf.old) (λ files. table edge_rows files (edge_table dir.now) ≡ Ok rows.items)) }
     ensures in_range { IfOk result (λ rows. IsTrue (list_all is_edge_in_range rows.items)) }
     ensures few { IfOk result (λ rows. length rows.items ≤ 16_777_216) }
-    ensures ends { IfErr result (Ends (H.files shelf.old) (λ files. table edge_rows files (edge_table dir.now))) }
+    ensures ends { IfErr result (IsMetWhereTold (H.files shelf.old) (λ files. table edge_rows files (edge_table dir.now))) }
     ensures named { IfErr result (NamesOnly (edge_table dir.now)) }
-    ensures shown { IfErr result (λ e. IsShown e (H.misses shelf.old) (H.misses shelf.new) (H.faults shelf.old) (H.faults shelf.new)) }
+    ensures shown { IfErr result (λ e. ShowsInCounts e (H.misses shelf.old) (H.misses shelf.new) (H.faults shelf.old) (H.faults shelf.new)) }
     ensures kept { H.files shelf.new ≡ H.files shelf.old }
     ensures never_falls { H.faults shelf.old ≤ H.faults shelf.new }
     ensures misses_never_fall { H.misses shelf.old ≤ H.misses shelf.new }
@@ -163,9 +163,9 @@ fn load_faces<H: Shelf>(alloc: Global, shelf: &mut H, dir: &str) -> Result<Vec<F
     ensures rows { IfOk result (λ rows. IfSome (H.files shelf.old) (λ files. table face_rows files (face_table dir.now) ≡ Ok rows.items)) }
     ensures in_range { IfOk result (λ rows. IsTrue (list_all (λ r. is_face_id r.id) rows.items)) }
     ensures few { IfOk result (λ rows. length rows.items ≤ 16_777_216) }
-    ensures ends { IfErr result (Ends (H.files shelf.old) (λ files. table face_rows files (face_table dir.now))) }
+    ensures ends { IfErr result (IsMetWhereTold (H.files shelf.old) (λ files. table face_rows files (face_table dir.now))) }
     ensures named { IfErr result (NamesOnly (face_table dir.now)) }
-    ensures shown { IfErr result (λ e. IsShown e (H.misses shelf.old) (H.misses shelf.new) (H.faults shelf.old) (H.faults shelf.new)) }
+    ensures shown { IfErr result (λ e. ShowsInCounts e (H.misses shelf.old) (H.misses shelf.new) (H.faults shelf.old) (H.faults shelf.new)) }
     ensures kept { H.files shelf.new ≡ H.files shelf.old }
     ensures never_falls { H.faults shelf.old ≤ H.faults shelf.new }
     ensures misses_never_fall { H.misses shelf.old ≤ H.misses shelf.new }
@@ -185,9 +185,9 @@ fn load_regions<H: Shelf>(
     ensures rows { IfOk result (λ rows. IfSome (H.files shelf.old) (λ files. optional_table region_rows files (region_table dir.now) ≡ Ok rows.items)) }
     ensures in_range { IfOk result (λ rows. IsTrue (list_all (λ r. is_id r.id && is_none_or is_id r.parent) rows.items)) }
     ensures few { IfOk result (λ rows. length rows.items ≤ 16_777_216) }
-    ensures ends { IfErr result (Ends (H.files shelf.old) (λ files. optional_table region_rows files (region_table dir.now))) }
+    ensures ends { IfErr result (IsMetWhereTold (H.files shelf.old) (λ files. optional_table region_rows files (region_table dir.now))) }
     ensures named { IfErr result MissesNothing }
-    ensures shown { IfErr result (λ e. IsShown e (H.misses shelf.old) (H.misses shelf.new) (H.faults shelf.old) (H.faults shelf.new)) }
+    ensures shown { IfErr result (λ e. ShowsInCounts e (H.misses shelf.old) (H.misses shelf.new) (H.faults shelf.old) (H.faults shelf.new)) }
     ensures kept { H.files shelf.new ≡ H.files shelf.old }
     ensures never_falls { H.faults shelf.old ≤ H.faults shelf.new }
     ensures misses_never_fall { H.misses shelf.old ≤ H.misses shelf.new }
@@ -209,9 +209,9 @@ fn load_members<H: Shelf>(
     ensures rows { IfOk result (λ rows. IfSome (H.files shelf.old) (λ files. optional_table member_rows files (member_table dir.now) ≡ Ok rows.items)) }
     ensures in_range { IfOk result (λ rows. IsTrue (list_all (λ r. is_id r.region && is_face_id r.face) rows.items)) }
     ensures few { IfOk result (λ rows. length rows.items ≤ 16_777_217) }
-    ensures ends { IfErr result (Ends (H.files shelf.old) (λ files. optional_table member_rows files (member_table dir.now))) }
+    ensures ends { IfErr result (IsMetWhereTold (H.files shelf.old) (λ files. optional_table member_rows files (member_table dir.now))) }
     ensures named { IfErr result MissesNothing }
-    ensures shown { IfErr result (λ e. IsShown e (H.misses shelf.old) (H.misses shelf.new) (H.faults shelf.old) (H.faults shelf.new)) }
+    ensures shown { IfErr result (λ e. ShowsInCounts e (H.misses shelf.old) (H.misses shelf.new) (H.faults shelf.old) (H.faults shelf.new)) }
     ensures kept { H.files shelf.new ≡ H.files shelf.old }
     ensures never_falls { H.faults shelf.old ≤ H.faults shelf.new }
     ensures misses_never_fall { H.misses shelf.old ≤ H.misses shelf.new }
@@ -228,9 +228,9 @@ fn load_members<H: Shelf>(
 pub fn load_tables<H: Shelf>(alloc: Global, shelf: &mut H, dir: &str) -> Result<Tables, LoadFault>
     ensures loaded { IfOk result (λ tables. IfSome (H.files shelf.old) (λ files. loaded files dir.now ≡ Ok (rows_of tables))) }
     ensures in_range { IfOk result (λ tables. IsTrue (is_in_range (rows_of tables))) }
-    ensures ends { IfErr result (Ends (H.files shelf.old) (λ files. loaded files dir.now)) }
+    ensures ends { IfErr result (IsMetWhereTold (H.files shelf.old) (λ files. loaded files dir.now)) }
     ensures named { IfErr result (NamesNeeded dir.now) }
-    ensures shown { IfErr result (λ e. IsShown e (H.misses shelf.old) (H.misses shelf.new) (H.faults shelf.old) (H.faults shelf.new)) }
+    ensures shown { IfErr result (λ e. ShowsInCounts e (H.misses shelf.old) (H.misses shelf.new) (H.faults shelf.old) (H.faults shelf.new)) }
     ensures kept { H.files shelf.new ≡ H.files shelf.old }
     ensures never_falls { H.faults shelf.old ≤ H.faults shelf.new }
     ensures misses_never_fall { H.misses shelf.old ≤ H.misses shelf.new }
@@ -253,9 +253,9 @@ pub fn load_tables<H: Shelf>(alloc: Global, shelf: &mut H, dir: &str) -> Result<
 /// The image of a folder's tables that are consistent.
 pub fn load_image<H: Shelf>(alloc: Global, shelf: &mut H, dir: &str) -> Result<Vec<u8>, LoadFault>
     ensures built { IfOk result (λ image. Builds (H.files shelf.old) dir.now image.items) }
-    ensures ends { IfErr result (Ends (H.files shelf.old) (λ files. served files dir.now)) }
+    ensures ends { IfErr result (IsMetWhereTold (H.files shelf.old) (λ files. served files dir.now)) }
     ensures named { IfErr result (NamesNeeded dir.now) }
-    ensures shown { IfErr result (λ e. IsShown e (H.misses shelf.old) (H.misses shelf.new) (H.faults shelf.old) (H.faults shelf.new)) }
+    ensures shown { IfErr result (λ e. ShowsInCounts e (H.misses shelf.old) (H.misses shelf.new) (H.faults shelf.old) (H.faults shelf.new)) }
     ensures kept { H.files shelf.new ≡ H.files shelf.old }
     ensures never_falls { H.faults shelf.old ≤ H.faults shelf.new }
     ensures misses_never_fall { H.misses shelf.old ≤ H.misses shelf.new }
@@ -269,9 +269,9 @@ pub fn load_image<H: Shelf>(alloc: Global, shelf: &mut H, dir: &str) -> Result<V
 pub fn load_file<H: Shelf>(alloc: Global, shelf: &mut H, file: &str) -> Result<Vec<u8>, LoadFault>
     ensures whole { IfOk result (λ bytes. IsWhole (H.files shelf.old) file.now bytes.items) }
     ensures short { IfOk result (λ bytes. length bytes.items ≤ most_bytes) }
-    ensures ends { IfErr result (Ends (H.files shelf.old) (λ files. opened files file.now)) }
+    ensures ends { IfErr result (IsMetWhereTold (H.files shelf.old) (λ files. opened files file.now)) }
     ensures named { IfErr result (NamesFile file.now) }
-    ensures shown { IfErr result (λ e. IsShown e (H.misses shelf.old) (H.misses shelf.new) (H.faults shelf.old) (H.faults shelf.new)) }
+    ensures shown { IfErr result (λ e. ShowsInCounts e (H.misses shelf.old) (H.misses shelf.new) (H.faults shelf.old) (H.faults shelf.new)) }
     ensures kept { H.files shelf.new ≡ H.files shelf.old }
     ensures no_write_fault { H.write_faults shelf.new ≡ H.write_faults shelf.old }
 {

@@ -4,7 +4,7 @@ ghost use Rattle.std.specs.Prelude.{◌≡◌, ◌≤◌, ◌+◌, ◌++◌, IfE
 ghost use Rattle.plane_model.specs.PlaneMap.{map_of};
 ghost use Rattle.map_totals.specs.Totals.{adjacent_total, face_total, most_total_words, node_total};
 ghost use Rattle.navigate.specs.Bound.{served_map};
-ghost use Rattle.topo_cli.specs.Loading.{BuildsGrid, IsEnding, NamesNothing};
+ghost use Rattle.topo_cli.specs.Loading.{BuildsGrid, IsMet, NamesNothing};
 ghost use Rattle.topo_cli.specs.Tables.{checked};
 ghost use Rattle.topo_cli.specs.Text.{trial_text};
 ghost use Rattle.map_maker.specs.Grid.{grid_of};
@@ -25,7 +25,7 @@ pub fn grid_image(alloc: Global, size: u32) -> Result<Vec<u8>, LoadFault>
     requires some { 1 ≤ size }
     requires size { size ≤ 1000 }
     ensures built { IfOk result (λ image. BuildsGrid size image.items) }
-    ensures ends { IfErr result (λ e. IsEnding e (checked (grid_of size))) }
+    ensures ends { IfErr result (λ e. IsMet e (checked (grid_of size))) }
     ensures named { IfErr result NamesNothing }
 {
     let tables = match grid(alloc, size) {

@@ -99,11 +99,11 @@ pub record IsTooLong (m : PlaneMap) (c : Call) (taken : List ℕ) : Type 0 where
   pub out_stays : c.out_faults_after ≡ c.out_faults_before
 
 -- what each answer says of a call that took these bytes
-abbrev pub Ends : PlaneMap → Call → List ℕ → Result (Unit {0}) ServeFault → Type 0
-Ends m c taken (Ok x) = IsServed m c taken
-Ends m c taken (Err ReadFault) = IsReadFault m c taken
-Ends m c taken (Err WriteFault) = IsWriteFault m c taken
-Ends m c taken (Err ScriptTooLong) = IsTooLong m c taken
+abbrev pub ServeSays : PlaneMap → Call → List ℕ → Result (Unit {0}) ServeFault → Type 0
+ServeSays m c taken (Ok x) = IsServed m c taken
+ServeSays m c taken (Err ReadFault) = IsReadFault m c taken
+ServeSays m c taken (Err WriteFault) = IsWriteFault m c taken
+ServeSays m c taken (Err ScriptTooLong) = IsTooLong m c taken
 
 -- a script that is told and not too long, and no count of faults rose
 pub record IsFine (c : Call) : Type 0 where
@@ -117,7 +117,7 @@ pub record IsFine (c : Call) : Type 0 where
 pub record Serves (m : PlaneMap) (c : Call) (result : Result (Unit {0}) ServeFault) : Type 0 where
   pub taken : List ℕ
   pub consumed : Consumes c.script_before c.script_after taken
-  pub ends : Ends m c taken result
+  pub ends : ServeSays m c taken result
   pub script_faults : c.script_faults_before ≤ c.script_faults_after
   pub out_faults : c.out_faults_before ≤ c.out_faults_after
   pub complete : IsFine c → result ≡ Ok tt

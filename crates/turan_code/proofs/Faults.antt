@@ -4,14 +4,15 @@ use Rattle.std.specs.List.{range_with_len}
 use Rattle.std.proofs.Common.{◌≡◌, ◌≢◌, ℕ, zero, suc, ◌+◌, ◌-◌, ◌<◌, ◌≤◌, inl, inr, Bool, true, false, List, length, refl, ap, sym, ◌∙◌, arith, subst, Option, Some, None, ◌==◌}
 use Rattle.std.proofs.lemmas.Bool.{cases_lt, and_from, eqb-true, eq-eqb, ne_eqb, lt-ltb}
 use Rattle.bit_words.specs.Bits.{rank}
+use Rattle.bit_words.specs.Lists.{first_some}
 use Rattle.bit_words.proofs.Ranks.{rank_both, rank_more_yes, rank_more_no}
 use Rattle.rank_select.proofs.CountLaws.{rank_past}
 use Rattle.bit_words.proofs.Finds.{find-least, find-none}
+use Rattle.rank_select.proofs.Selects.{cases_kind}
 use Rattle.parens.specs.Matching.{balance_fault, is_balanced, or_end, closes_more}
 use Rattle.code_laws.specs.Code.{Code, parens, place, start_of, end_of, component_count}
-use Rattle.code_laws.specs.SeqFault.{is_start, starts_fault, is_balanced_in, balance_fault_of, ones_fault, first_some, seq_fault, is_sound}
+use Rattle.code_laws.specs.SeqFault.{is_start, starts_fault, is_balanced_in, balance_fault_of, ones_fault, seq_fault, is_sound}
 use Rattle.code_laws.specs.declared.seq_fault.SeqFault.TheVariants.{Starts, Ones, Tree, Dual}
-use Rattle.rank_select.proofs.Selects.{cases_kind}
 use Rattle.code_laws.proofs.Sound.{IsLaidOut, laid_out, rises, start_within, places_within}
 use Rattle.turan_code.specs.Sequences.{AreFew, AreLaidOut}
 

@@ -10,8 +10,8 @@ use Rattle.bit_words.proofs.Ranks.{rank-le, rank-zero}
 use Rattle.bit_words.specs.declared.memory.Memory.{Memory}
 use Rattle.parens.specs.Matching.{is_open, pair_number, innermost}
 use Rattle.code_laws.specs.Code.{Code, is_tree, is_first, parens, place, component_of, component_count, start_of}
-use Rattle.code_laws.specs.Numbers.{tree_edges, edge_of, node_of, ring_of, pair_round}
-use Rattle.code_laws.specs.Rounds.{rounds, round_numbers, IsLastOf}
+use Rattle.code_laws.specs.Numbers.{tree_edges, edge_of, node_of, ring_of, enclosing_pair}
+use Rattle.code_laws.specs.Enclosing.{enclosing_places, enclosing_numbers, IsLastOf}
 use Rattle.code_laws.specs.SeqFault.{is_sound}
 use Rattle.code_laws.specs.Tour.{ring_code}
 use Rattle.code_laws.proofs.Places.{place_next, place_other}
@@ -21,8 +21,8 @@ use Rattle.code_laws.proofs.Stacks.{numbers-open, numbers-close, numbers-innermo
 use Rattle.turan_code.specs.declared.numbering.OpenPairs.{OpenPairs}
 use Rattle.turan_code.specs.declared.numbering.Gap.{Gap}
 use Rattle.turan_code.specs.declared.numbering.Numbers.{Numbers}
-use Rattle.turan_code.specs.declared.numbering.Numbering.{Numbering}
-use Rattle.turan_code.specs.Numbering.{Passes, AreRound, HaveBegun, IsGap, AreNumbers, AreNumbered}
+use Rattle.turan_code.specs.declared.numbering.CodeNumbering.{CodeNumbering}
+use Rattle.turan_code.specs.Numbering.{Passes, AreEnclosing, HaveBegun, IsGap, AreNumbersAt, HasLists}
 use Rattle.turan_code.proofs.Views.{place_lt}
 
 -- a list has one last number, or none
@@ -36,11 +36,11 @@ added : (f : ℕ → ℕ) (p x : ℕ) (before after : List ℕ) → before ≡ m
 added f p x before after b e a = a ∙ ap (λ xs. xs ++ x ∷ []) b ∙ ap (λ y. map f (range_with_len 0 p) ++ y ∷ []) e ∙ sym (map-range_with_len_more f 0 p p (omega arith))
 
 -- a numbering of the positions before p
-abbrev pub AreNumberedTo : Code → ℕ → Numbering → Type 0
-AreNumberedTo c p = AreNumbered (map (edge_of c) (range_with_len 0 p)) (map (node_of c) (range_with_len 0 p)) (map (λ q. ring_code (ring_of c q)) (range_with_len 0 p))
+abbrev pub AreNumberedTo : Code → ℕ → CodeNumbering → Type 0
+AreNumberedTo c p = HasLists (map (edge_of c) (range_with_len 0 p)) (map (node_of c) (range_with_len 0 p)) (map (λ q. ring_code (ring_of c q)) (range_with_len 0 p))
 
-pub one_more : (c : Code) (p : ℕ) (before after : Numbering) (numbers : Numbers) → AreNumberedTo c p before → AreNumbers c p numbers
-    → AreNumbered (before.edge.items ++ numbers.edge ∷ []) (before.node.items ++ numbers.node ∷ []) (before.ring.items ++ numbers.ring ∷ []) after → AreNumberedTo c (p + 1) after
+pub one_more : (c : Code) (p : ℕ) (before after : CodeNumbering) (numbers : Numbers) → AreNumberedTo c p before → AreNumbersAt c p numbers
+    → HasLists (before.edge.items ++ numbers.edge ∷ []) (before.node.items ++ numbers.node ∷ []) (before.ring.items ++ numbers.ring ∷ []) after → AreNumberedTo c (p + 1) after
 one_more c p before after numbers b n a =
     record {
       edge = added (edge_of c) p numbers.edge before.edge.items after.edge.items b.edge n.edge a.edge;
@@ -49,12 +49,12 @@ one_more c p before after numbers b n a =
     }
 
 -- no pair is round the first gap, and nothing has begun there
-none_round : (c : Code) (kind : Bool) (pairs : OpenPairs) → pairs.numbers.items ≡ [] → pairs.opened ≡ 0 → AreRound c kind 0 pairs
-unfolding round_numbers
+none_round : (c : Code) (kind : Bool) (pairs : OpenPairs) → pairs.numbers.items ≡ [] → pairs.opened ≡ 0 → AreEnclosing c kind 0 pairs
+unfolding enclosing_numbers
 none_round c kind pairs n o =
     let e = rank-zero kind c.a in
     record {
-      numbers = n ∙ ap (λ i. map (rank true (parens c kind)) (rounds (parens c kind) i)) (sym e);
+      numbers = n ∙ ap (λ i. map (rank true (parens c kind)) (enclosing_places (parens c kind) i)) (sym e);
       opened = o ∙ sym (ap (rank true (parens c kind)) e ∙ rank-zero true (parens c kind));
     }
 
@@ -118,15 +118,15 @@ module _ (c : Code) (h : is_sound c ≡ true) where
 
   module _ (kind : Bool) (p : ℕ) (l : p < length c.a) where
     -- the pairs of a kind where the position is of the other one
-    pub same_round : (pairs : OpenPairs) → is_tree c p ≡ not kind → AreRound c kind p pairs → AreRound c kind (p + 1) pairs
+    pub same_round : (pairs : OpenPairs) → is_tree c p ≡ not kind → AreEnclosing c kind p pairs → AreEnclosing c kind (p + 1) pairs
     same_round pairs is r =
         let e = place_other c kind p l is in
         record {
-          numbers = r.numbers ∙ ap (round_numbers (parens c kind)) (sym e);
+          numbers = r.numbers ∙ ap (enclosing_numbers (parens c kind)) (sym e);
           opened = r.opened ∙ ap (rank true (parens c kind)) (sym e);
         }
 
-    pub room : (pairs : OpenPairs) → length c.a ≤ 2147483647 → AreRound c kind p pairs → pairs.opened < 4294967295
+    pub room : (pairs : OpenPairs) → length c.a ≤ 2147483647 → AreEnclosing c kind p pairs → pairs.opened < 4294967295
     room pairs few r = omega (arith, few, l, r.opened, rank-le true (parens c kind) (place c kind p), rank-le kind c.a p)
 
     module _ (is : is_tree c p ≡ kind) where
@@ -134,17 +134,17 @@ module _ (c : Code) (h : is_sound c ≡ true) where
       opens_at first f = sym (first_at c kind p (place c kind p) is refl) ∙ f
 
       -- a pair is open where the position is the second of its edge
-      pub some_round : (first : Bool) (pairs : OpenPairs) → is_first c p ≡ first → AreRound c kind p pairs → IsTrue first ⊎ (0 < length pairs.numbers.items)
+      pub some_round : (first : Bool) (pairs : OpenPairs) → is_first c p ≡ first → AreEnclosing c kind p pairs → IsTrue first ⊎ (0 < length pairs.numbers.items)
       some_round true pairs f r = inl refl
       some_round false pairs f r =
           let bits = parens c kind in
           let i = place c kind p in
           let n = numbers-close bits (whole c (sound_parts c h) kind) i (place_lt c h kind p l is) (opens_at false f) in
-          inr (omega (arith, ap length (r.numbers ∙ n.0), length_push (round_numbers bits (i + 1)) (pair_number bits i)))
+          inr (omega (arith, ap length (r.numbers ∙ n.0), length_push (enclosing_numbers bits (i + 1)) (pair_number bits i)))
 
       -- the pairs after the position, and the number of its pair
-      pub passed : (first : Bool) (before after : OpenPairs) (number : ℕ) → is_first c p ≡ first → AreRound c kind p before → Passes first before after number
-          → AreRound c kind (p + 1) after × (number ≡ pair_number (parens c kind) (place c kind p))
+      pub passed : (first : Bool) (before after : OpenPairs) (number : ℕ) → is_first c p ≡ first → AreEnclosing c kind p before → Passes first before after number
+          → AreEnclosing c kind (p + 1) after × (number ≡ pair_number (parens c kind) (place c kind p))
       passed true before after number f r s =
           let bits = parens c kind in
           let i = place c kind p in
@@ -152,7 +152,7 @@ module _ (c : Code) (h : is_sound c ≡ true) where
           let n = numbers-open bits (whole c (sound_parts c h) kind) i (place_lt c h kind p l is) (opens_at true f) in
           let number_is : number ≡ rank true bits i = s.0 ∙ r.opened in (
             record {
-              numbers = s.1 ∙ ap (λ xs. xs ++ number ∷ []) r.numbers ∙ ap (λ x. round_numbers bits i ++ x ∷ []) number_is ∙ sym n.0 ∙ ap (round_numbers bits) (sym next);
+              numbers = s.1 ∙ ap (λ xs. xs ++ number ∷ []) r.numbers ∙ ap (λ x. enclosing_numbers bits i ++ x ∷ []) number_is ∙ sym n.0 ∙ ap (enclosing_numbers bits) (sym next);
               opened = s.2 ∙ ap (λ x. x + 1) r.opened ∙ sym n.2 ∙ ap (rank true bits) (sym next);
             },
             number_is ∙ sym n.1,
@@ -162,16 +162,16 @@ module _ (c : Code) (h : is_sound c ≡ true) where
           let i = place c kind p in
           let next = place_next c kind p l is in
           let n = numbers-close bits (whole c (sound_parts c h) kind) i (place_lt c h kind p l is) (opens_at false f) in
-          let left = same_from_push after.numbers.items (round_numbers bits (i + 1)) number (pair_number bits i) (sym s.0 ∙ r.numbers ∙ n.0) in (
+          let left = same_from_push after.numbers.items (enclosing_numbers bits (i + 1)) number (pair_number bits i) (sym s.0 ∙ r.numbers ∙ n.0) in (
             record {
-              numbers = left.0 ∙ ap (round_numbers bits) (sym next);
+              numbers = left.0 ∙ ap (enclosing_numbers bits) (sym next);
               opened = s.1 ∙ r.opened ∙ sym n.1 ∙ ap (rank true bits) (sym next);
             },
             left.1,
           )
 
-      pub passed_if : (first : Bool) (before after : OpenPairs) (r : Result ℕ Memory) → is_first c p ≡ first → AreRound c kind p before → IfOk r (Passes first before after)
-          → OnOk r (AreRound c kind (p + 1) after) × IfOk r (λ number. number ≡ pair_number (parens c kind) (place c kind p))
+      pub passed_if : (first : Bool) (before after : OpenPairs) (r : Result ℕ Memory) → is_first c p ≡ first → AreEnclosing c kind p before → IfOk r (Passes first before after)
+          → OnOk r (AreEnclosing c kind (p + 1) after) × IfOk r (λ number. number ≡ pair_number (parens c kind) (place c kind p))
       passed_if first before after (Ok number) f r s = passed first before after number f r s
       passed_if first before after (Err e) f r s = (tt, tt)
 
@@ -188,17 +188,17 @@ module _ (c : Code) (h : is_sound c ≡ true) where
   tree_edge_if p (Ok number) is e = e ∙ tree_edge_is p is
   tree_edge_if p (Err e) is h = tt
 
-  pub same_round_if : (kind : Bool) (p : ℕ) (pairs : OpenPairs) (r : Result ℕ Memory) → p < length c.a → is_tree c p ≡ not kind → AreRound c kind p pairs → OnOk r (AreRound c kind (p + 1) pairs)
+  pub same_round_if : (kind : Bool) (p : ℕ) (pairs : OpenPairs) (r : Result ℕ Memory) → p < length c.a → is_tree c p ≡ not kind → AreEnclosing c kind p pairs → OnOk r (AreEnclosing c kind (p + 1) pairs)
   same_round_if kind p pairs (Ok number) l is h = same_round kind p l pairs is h
   same_round_if kind p pairs (Err e) l is h = tt
 
   -- the pair that the last number is of
-  pair_last : (kind : Bool) (p : ℕ) → IsLastOf (round_numbers (parens c kind) (place c kind p)) (pair_round c kind p)
-  unfolding pair_round
+  pair_last : (kind : Bool) (p : ℕ) → IsLastOf (enclosing_numbers (parens c kind) (place c kind p)) (enclosing_pair c kind p)
+  unfolding enclosing_pair
   pair_last kind p = numbers-innermost (parens c kind) (whole c (sound_parts c h) kind) (place c kind p) (innermost (parens c kind) (place c kind p)) refl
 
-  pub innermost_is : (kind : Bool) (p : ℕ) (pairs : OpenPairs) (o : Option ℕ) → AreRound c kind p pairs → IsLastOf pairs.numbers.items o → o ≡ pair_round c kind p
-  innermost_is kind p pairs o r s = one_last _ o (pair_round c kind p) (subst (λ (xs : List ℕ). IsLastOf xs o) r.numbers s) (pair_last kind p)
+  pub innermost_is : (kind : Bool) (p : ℕ) (pairs : OpenPairs) (o : Option ℕ) → AreEnclosing c kind p pairs → IsLastOf pairs.numbers.items o → o ≡ enclosing_pair c kind p
+  innermost_is kind p pairs o r s = one_last _ o (enclosing_pair c kind p) (subst (λ (xs : List ℕ). IsLastOf xs o) r.numbers s) (pair_last kind p)
 
   pub component_below : (p : ℕ) → p < length c.a → component_of c p < component_count c
   component_below p l = let i = in_one c (sound_parts c h) p l in omega (arith, i.1.count, i.1.is)

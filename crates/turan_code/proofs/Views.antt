@@ -6,12 +6,12 @@ use Rattle.std.proofs.lemmas.Bool.{lt-ltb, le-ltb}
 use Rattle.bit_words.specs.Bits.{rank, select, IsSelected}
 use Rattle.bit_words.specs.Digits.{digits}
 use Rattle.bit_words.proofs.DigitLaws.{digits-halved, digits-mono}
+use Rattle.rank_select.proofs.Selects.{selected}
 use Rattle.parens.specs.Matching.{is_open, mate_of, pair_number, innermost}
 use Rattle.code_laws.specs.Code.{Code, is_tree, is_first, parens, place, mate, component_of, component_count, start_of, end_of}
-use Rattle.code_laws.specs.Numbers.{edge_of, node_of, ring_of, node_or_root, shell_or_outer, pair_round, tree_edges, first_of_edge, first_of_node, first_of_shell, opening_position, one_on, edge_count, node_count, shell_count}
+use Rattle.code_laws.specs.Numbers.{edge_of, node_of, ring_of, node_or_root, shell_or_outer, enclosing_pair, tree_edges, first_of_edge, first_of_node, first_of_shell, opening_position, one_on, edge_count, node_count, shell_count}
 use Rattle.code_laws.specs.SeqFault.{is_sound}
 use Rattle.code_laws.specs.declared.ring_number.RingNumber.TheVariants.{Outer, Shell}
-use Rattle.rank_select.proofs.Selects.{selected}
 use Rattle.code_laws.proofs.Sound.{sound_parts, rises, start_within, places_within, in_one, is_component, first_start, last_start}
 use Rattle.code_laws.proofs.Edges.{place_in, laws, edge_within}
 use Rattle.code_laws.proofs.Mates.{first_at}
@@ -115,31 +115,31 @@ module _ (c : Code) (h : is_sound c ≡ true) where
   edge_below p l = let w = edge_within c (sound_parts c h) p l in omega (arith, w)
 
   -- the pair round a gap, by its opening place
-  pub round_found : (kind : Bool) (p x i pair : ℕ) → x ≡ place c kind p → Some i ≡ innermost (parens c kind) x → pair ≡ rank true (parens c kind) i → Some pair ≡ pair_round c kind p
-  unfolding pair_round
+  pub round_found : (kind : Bool) (p x i pair : ℕ) → x ≡ place c kind p → Some i ≡ innermost (parens c kind) x → pair ≡ rank true (parens c kind) i → Some pair ≡ enclosing_pair c kind p
+  unfolding enclosing_pair
   round_found kind p x i pair e f g = ap Some g ∙ ap (option_map (rank true (parens c kind))) (f ∙ ap (innermost (parens c kind)) e)
 
-  pub round_none : (kind : Bool) (p x : ℕ) → x ≡ place c kind p → None ≡ innermost (parens c kind) x → None ≡ pair_round c kind p
-  unfolding pair_round
+  pub round_none : (kind : Bool) (p x : ℕ) → x ≡ place c kind p → None ≡ innermost (parens c kind) x → None ≡ enclosing_pair c kind p
+  unfolding enclosing_pair
   round_none kind p x e f = ap (option_map (rank true (parens c kind))) (f ∙ ap (innermost (parens c kind)) e)
 
-  pub node_found : (p pair : ℕ) → Some pair ≡ pair_round c true p → component_count c + pair ≡ node_of c p
+  pub node_found : (p pair : ℕ) → Some pair ≡ enclosing_pair c true p → component_count c + pair ≡ node_of c p
   unfolding node_of
   node_found p pair e = ap (node_or_root c p) e
 
-  pub root_found : (p : ℕ) → None ≡ pair_round c true p → component_of c p ≡ node_of c p
+  pub root_found : (p : ℕ) → None ≡ enclosing_pair c true p → component_of c p ≡ node_of c p
   unfolding node_of
   root_found p e = ap (node_or_root c p) e
 
-  pub shell_found : (p pair : ℕ) → Some pair ≡ pair_round c false p → Shell pair ≡ ring_of c p
+  pub shell_found : (p pair : ℕ) → Some pair ≡ enclosing_pair c false p → Shell pair ≡ ring_of c p
   unfolding ring_of
   shell_found p pair e = ap (shell_or_outer c p) e
 
-  pub outer_found : (p : ℕ) → None ≡ pair_round c false p → Outer (component_of c p) ≡ ring_of c p
+  pub outer_found : (p : ℕ) → None ≡ enclosing_pair c false p → Outer (component_of c p) ≡ ring_of c p
   unfolding ring_of
   outer_found p e = ap (shell_or_outer c p) e
 
-  pub pair_below : (kind : Bool) (p pair : ℕ) → p < length c.a → Some pair ≡ pair_round c kind p → pair < length c.a
+  pub pair_below : (kind : Bool) (p pair : ℕ) → p < length c.a → Some pair ≡ enclosing_pair c kind p → pair < length c.a
   pair_below kind p pair l e =
       let s = sound_parts c h in
       let b = round_below c s kind p pair l (sym e) in
@@ -194,5 +194,5 @@ module _ (c : Code) (h : is_sound c ≡ true) where
   start_inside n l = node_first-within c (sound_parts c h) n (start_of c n) (sym (root_first n l))
 
   -- the ring of a position is one of the code
-  pub shell_below : (p pair : ℕ) → p < length c.a → Some pair ≡ pair_round c false p → pair < shell_count c
+  pub shell_below : (p pair : ℕ) → p < length c.a → Some pair ≡ enclosing_pair c false p → pair < shell_count c
   shell_below p pair l e = let s = sound_parts c h in let b = round_below c s false p pair l (sym e) in let m = pairs c s false in omega (arith, b, m)

@@ -13,7 +13,7 @@ mod view;
 pub use checking::check;
 pub use code_laws::{RingNumber, SeqFault};
 pub use making::{CodeWords, make};
-pub use numbering::{Numbering, number};
+pub use numbering::{CodeNumbering, number};
 pub use view::{TuranParts, TuranView};
 
 #[cfg(test)]

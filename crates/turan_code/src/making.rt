@@ -4,7 +4,7 @@ ghost use Rattle.std.specs.Prelude.{◌≡◌, ◌≤◌, length, IfOk};
 ghost use Rattle.code_laws.specs.Tour.{picked, code_of};
 ghost use Rattle.turan_code.specs.CodeWords.{AreWordsOf};
 
-use bit_words::{BitMaker, Memory, all_bits, all_numbers};
+use bit_words::{BitMaker, Memory, all_bits, packed_numbers};
 use rank_select::make_counts;
 use std::alloc::Global;
 
@@ -73,7 +73,7 @@ pub fn make(
     let dual_counts = make_counts(alloc, &dual)?;
     let b_tree = min_max_tree::make(alloc, &b)?;
     let dual_tree = min_max_tree::make(alloc, &dual)?;
-    let starts = all_numbers(alloc, starts)?;
+    let starts = packed_numbers(alloc, starts)?;
     Ok(CodeWords {
         a: a.finish(),
         a_counts: a_counts.finish(),

@@ -3,17 +3,17 @@
 ghost use Rattle.std.specs.Prelude.{◌≡◌, ◌<◌, ◌≤◌, ◌+◌, ◌⊎◌, true, false, [], ◌∷◌, ◌++◌, length, IfOk, OnOk, IsTrue};
 ghost use Rattle.code_laws.specs.Code.{component_of, component_count};
 ghost use Rattle.code_laws.specs.Numbers.{tree_edges, edge_of, node_of, ring_of};
-ghost use Rattle.code_laws.specs.Rounds.{IsLastOf};
+ghost use Rattle.code_laws.specs.Enclosing.{IsLastOf};
 ghost use Rattle.code_laws.specs.SeqFault.{is_sound};
 ghost use Rattle.code_laws.specs.Tour.{code_of, ring_code, edge_numbers, node_numbers, ring_numbers};
-ghost use Rattle.turan_code.specs.Numbering.{code_of_walk, IsWalk, Passes, AreRound, HaveBegun, IsGap, AreNumbers, AreNumbered};
+ghost use Rattle.turan_code.specs.Numbering.{code_of_walk, IsWalk, Passes, AreEnclosing, HaveBegun, IsGap, AreNumbersAt, HasLists};
 
 use bit_words::{Memory, ones};
 use std::alloc::Global;
 
 /// The numbers of a code, one entry for each position.
 #[derive(Drop)]
-pub struct Numbering {
+pub struct CodeNumbering {
     /// The number of the edge at the position.
     pub edge: Vec<u32>,
     /// The number of the node that the position leaves.
@@ -167,11 +167,11 @@ impl Gap {
         requires walk { IsWalk walk }
         requires within { p < length walk.tree.now }
         requires of_trees { of_trees ≡ tree_edges (code_of_walk walk) }
-        requires tree { AreRound (code_of_walk walk) true p self.old.tree }
-        requires dual { AreRound (code_of_walk walk) false p self.old.dual }
+        requires tree { AreEnclosing (code_of_walk walk) true p self.old.tree }
+        requires dual { AreEnclosing (code_of_walk walk) false p self.old.dual }
         ensures edge { IfOk result (λ edge. edge ≡ edge_of (code_of_walk walk.entry) p) }
-        ensures tree { OnOk result (AreRound (code_of_walk walk.entry) true (p + 1) self.new.tree) }
-        ensures dual { OnOk result (AreRound (code_of_walk walk.entry) false (p + 1) self.new.dual) }
+        ensures tree { OnOk result (AreEnclosing (code_of_walk walk.entry) true (p + 1) self.new.tree) }
+        ensures dual { OnOk result (AreEnclosing (code_of_walk walk.entry) false (p + 1) self.new.dual) }
         ensures begun { self.new.begun ≡ self.old.begun }
     {
         let first = walk.first[p];
@@ -187,7 +187,7 @@ impl Gap {
         requires walk { IsWalk walk }
         requires within { p < length walk.tree.now }
         requires component { component ≡ component_of (code_of_walk walk) p }
-        requires tree { AreRound (code_of_walk walk) true p self.now.tree }
+        requires tree { AreEnclosing (code_of_walk walk) true p self.now.tree }
         ensures { result ≡ node_of (code_of_walk walk.entry) p }
     {
         match self.tree.innermost() {
@@ -200,7 +200,7 @@ impl Gap {
     fn ring(&self, walk: Walk<'_>, p: usize) -> u32
         requires walk { IsWalk walk }
         requires within { p < length walk.tree.now }
-        requires dual { AreRound (code_of_walk walk) false p self.now.dual }
+        requires dual { AreEnclosing (code_of_walk walk) false p self.now.dual }
         ensures { result ≡ ring_code (ring_of (code_of_walk walk.entry) p) }
     {
         match self.dual.innermost() {
@@ -215,7 +215,7 @@ impl Gap {
         requires within { p < length walk.tree.now }
         requires of_trees { of_trees ≡ tree_edges (code_of_walk walk) }
         requires gap { IsGap (code_of_walk walk) p self.old }
-        ensures numbers { IfOk result (AreNumbers (code_of_walk walk.entry) p) }
+        ensures numbers { IfOk result (AreNumbersAt (code_of_walk walk.entry) p) }
         ensures gap { OnOk result (IsGap (code_of_walk walk.entry) (p + 1) self.new) }
     {
         self.begun = walk.begun_with(p, self.begun);
@@ -226,12 +226,12 @@ impl Gap {
     }
 }
 
-impl Numbering {
+impl CodeNumbering {
     /// Room for the numbers of so many positions.
-    fn with_room(alloc: Global, positions: usize) -> Result<Numbering, Memory>
-        ensures { IfOk result (λ numbering. AreNumbered [] [] [] numbering) }
+    fn with_room(alloc: Global, positions: usize) -> Result<CodeNumbering, Memory>
+        ensures { IfOk result (λ numbering. HasLists [] [] [] numbering) }
     {
-        Ok(Numbering {
+        Ok(CodeNumbering {
             edge: with_room(alloc, positions)?,
             node: with_room(alloc, positions)?,
             ring: with_room(alloc, positions)?,
@@ -240,7 +240,7 @@ impl Numbering {
 
     /// Puts the numbers of the next position at the end.
     fn push(&mut self, numbers: Numbers) -> Result<(), Memory>
-        ensures { OnOk result (AreNumbered (self.old.edge.items ++ numbers.edge ∷ []) (self.old.node.items ++ numbers.node ∷ []) (self.old.ring.items ++ numbers.ring ∷ []) self.new) }
+        ensures { OnOk result (HasLists (self.old.edge.items ++ numbers.edge ∷ []) (self.old.node.items ++ numbers.node ∷ []) (self.old.ring.items ++ numbers.ring ∷ []) self.new) }
     {
         push(&mut self.edge, numbers.edge)?;
         push(&mut self.node, numbers.node)?;
@@ -254,7 +254,7 @@ pub fn number(
     tree: &[bool],
     first: &[bool],
     starts: &[u32],
-) -> Result<Numbering, Memory>
+) -> Result<CodeNumbering, Memory>
     requires same { length tree.now ≡ length first.now }
     requires few { length tree.now ≤ 2147483647 }
     requires sound { IsTrue (is_sound (code_of tree.now first.now starts.now)) }
@@ -269,7 +269,7 @@ pub fn number(
     };
     let of_trees = walk.tree_edges();
     let mut gap = Gap::new(alloc);
-    let mut numbering = Numbering::with_room(alloc, tree.len())?;
+    let mut numbering = CodeNumbering::with_room(alloc, tree.len())?;
     for p in 0..tree.len() {
         let numbers = gap.pass(walk, of_trees, p)?;
         numbering.push(numbers)?;

@@ -8,7 +8,7 @@ mod plain;
 
 use crate::tests::image::{Bits, Walk, image_of};
 use crate::tests::plain::{Growing, Plain, number_orbits, plain_of};
-use crate::{Numbering, RingNumber, SeqFault, TuranView, check, make, number};
+use crate::{CodeNumbering, RingNumber, SeqFault, TuranView, check, make, number};
 use bit_words::Steps;
 use std::alloc::Global;
 use std::marker::Brand;
@@ -130,7 +130,7 @@ fn wrong_position<C: Ledger>(
 }
 
 /// Whether these are the wanted numbers.
-fn are_wanted(numbering: &Numbering, want: Want<'_>) -> bool {
+fn are_wanted(numbering: &CodeNumbering, want: Want<'_>) -> bool {
     numbering.edge.as_slice() == want.edge
         && numbering.node.as_slice() == want.node
         && numbering.ring.as_slice() == want.ring
@@ -227,7 +227,7 @@ fn numbers_are_of_orbits(alloc: Global, want: Want<'_>, components: u32) -> Resu
 fn unlike<C: Ledger>(
     alloc: Global,
     view: TuranView<'_>,
-    numbering: &Numbering,
+    numbering: &CodeNumbering,
     plain: &Plain,
     steps: &mut Steps<C>,
 ) -> Result<Option<Wrong>, Fail> {

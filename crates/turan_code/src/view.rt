@@ -40,7 +40,7 @@ impl<'a> TuranView<'a> {
     ghost use Rattle.bit_words.specs.Bits.{select};
     ghost use Rattle.parens.specs.Matching.{mate_of, is_open};
     ghost use Rattle.code_laws.specs.Code.{is_tree, is_first, parens, place, mate, component_of, component_count, start_of, end_of, after, before, turn, next, turn_back, next_back, over, step, step_back};
-    ghost use Rattle.code_laws.specs.Numbers.{tree_edges, edge_of, node_of, ring_of, pair_round, first_of_edge, first_of_node, first_of_shell, opening_position, one_on, edge_count, node_count, shell_count, has_ring};
+    ghost use Rattle.code_laws.specs.Numbers.{tree_edges, edge_of, node_of, ring_of, enclosing_pair, first_of_edge, first_of_node, first_of_shell, opening_position, one_on, edge_count, node_count, shell_count, has_ring};
     ghost use Rattle.code_laws.specs.SeqFault.{is_sound};
     ghost use Rattle.turan_code.specs.TuranView.{code_of_parts, code_of_view};
 
@@ -381,9 +381,9 @@ impl<'a> TuranView<'a> {
     }
 
     /// The number, among the pairs of one kind, of the innermost pair round the gap before position `p`.
-    fn pair_round<C: Ledger>(&self, kind: bool, p: usize, steps: &mut Steps<C>) -> Option<usize>
+    fn enclosing_pair<C: Ledger>(&self, kind: bool, p: usize, steps: &mut Steps<C>) -> Option<usize>
         requires { p < length (code_of_view self.now).a }
-        ensures pair { result ≡ pair_round (code_of_view self.now) kind p }
+        ensures pair { result ≡ enclosing_pair (code_of_view self.now) kind p }
         ensures some_steps { steps.old + 1 ≤ steps.new }
         ensures cost { steps.new ≤ steps.old + 4 * digits (length (code_of_view self.now).a + 2) + 58 }
     {
@@ -404,7 +404,7 @@ impl<'a> TuranView<'a> {
         ensures some_steps { steps.old + 1 ≤ steps.new }
         ensures cost { steps.new ≤ steps.old + 6 * digits (length (code_of_view self.now).a + 2) + 60 }
     {
-        match self.pair_round(true, p, steps) {
+        match self.enclosing_pair(true, p, steps) {
             Some(pair) => (self.components() + pair) as u32,
             None => self.component_of(p, steps),
         }
@@ -418,7 +418,7 @@ impl<'a> TuranView<'a> {
         ensures some_steps { steps.old + 1 ≤ steps.new }
         ensures cost { steps.new ≤ steps.old + 6 * digits (length (code_of_view self.now).a + 2) + 60 }
     {
-        match self.pair_round(false, p, steps) {
+        match self.enclosing_pair(false, p, steps) {
             Some(pair) => RingNumber::Shell(pair as u32),
             None => RingNumber::Outer(self.component_of(p, steps)),
         }

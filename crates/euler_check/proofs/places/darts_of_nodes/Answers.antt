@@ -1,6 +1,6 @@
 use Rattle.std.proofs.Common.{◌≡◌, ◌*◌, ◌∙◌, sym, subst, length, arith, rules}
 use Rattle.rotation_check.proofs.EndLemmas.{one_node}
-use Rattle.euler_check.specs.Counts.{ArePlaces, LeavesRow}
+use Rattle.euler_check.specs.Counts.{AreLabelDarts, LeavesRow}
 use Rattle.euler_check.proofs.Counting.{places_next}
 use Rattle.euler_check.proofs.places.darts_of_nodes.Goals as goal
 
@@ -14,7 +14,7 @@ pub returns : goal.returns
 returns c =
     let whole : c.loop-dart.dart ≡ 2 * length c.args.rotation.now.edges = (let a = c.edges-dart-end.ensures.edges in let b = c.loop-dart-test.false in let d = c.loop-dart.auto.dart-end in omega arith) in
     record {
-      places = subst (λ n. ArePlaces (LeavesRow c.args.rotation.now) (length c.args.rotation.now.nodes) n c.loop-dart.darts.items) whole c.loop-dart.invariant;
+      places = subst (λ n. AreLabelDarts (LeavesRow c.args.rotation.now) (length c.args.rotation.now.nodes) n c.loop-dart.darts.items) whole c.loop-dart.invariant;
       few = search rules;
       rotation = c.edges-dart-end.ensures.rotation;
     }

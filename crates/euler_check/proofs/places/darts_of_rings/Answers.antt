@@ -1,5 +1,5 @@
 use Rattle.std.proofs.Common.{◌≡◌, ◌*◌, ◌<◌, ◌∙◌, sym, subst, length, arith, rules}
-use Rattle.euler_check.specs.Counts.{ArePlaces, HasNumber}
+use Rattle.euler_check.specs.Counts.{AreLabelDarts, HasNumber}
 use Rattle.euler_check.proofs.Counting.{places_next}
 use Rattle.euler_check.proofs.places.darts_of_rings.Goals as goal
 
@@ -14,7 +14,7 @@ pub returns : goal.returns
 returns c =
     let whole : c.loop-dart.dart ≡ 2 * length c.args.rotation.now.edges = (let a = c.edges-dart-end.ensures.edges in let b = c.loop-dart-test.false in let d = c.loop-dart.auto.dart-end in omega arith) in
     record {
-      places = subst (λ n. ArePlaces (HasNumber c.args.rings.now) c.args.rings.now.count n c.loop-dart.darts.items) whole c.loop-dart.invariant;
+      places = subst (λ n. AreLabelDarts (HasNumber c.args.rings.now) c.args.rings.now.count n c.loop-dart.darts.items) whole c.loop-dart.invariant;
       few = search rules;
       rotation = c.edges-dart-end.ensures.rotation;
     }

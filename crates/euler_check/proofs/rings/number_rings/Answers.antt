@@ -5,7 +5,7 @@ use Rattle.plane_model.specs.PlaneMap.{ring, signed_edges}
 use Rattle.plane_model.proofs.ComponentParts.{ring_partition}
 use Rattle.rotation_check.specs.Darts.{map_of_rotation, signed_edge}
 use Rattle.rotation_check.proofs.FirstIn.{not_some, is_its_value}
-use Rattle.euler_check.specs.Marks.{AreMarked, AreNumbered}
+use Rattle.euler_check.specs.Marks.{DartsGetNumber, FirstAreNumbered}
 use Rattle.euler_check.proofs.Walking.{own_rows, there}
 use Rattle.euler_check.proofs.Numbered.{numbered_none, numbered_next, numbered_skip, numbers_are}
 use Rattle.euler_check.proofs.Counted.{as_many_rings}
@@ -31,17 +31,17 @@ loop-dart-preserved c =
           let next =
           numbered_next t.edges (signed_edges (map_of_rotation t)) (ring (map_of_rotation t)) (ring_partition (own_rows t) is.rotation) (there t is) c.loop-dart.dart c.loop-dart.count c.loop-dart.numbers.items w.mark_ring.new.numbers
           lt c.loop-dart.invariant none
-          (subst (λ old. AreMarked t.edges (ring (map_of_rotation t) (signed_edge t.edges c.loop-dart.dart)) c.loop-dart.count old w.mark_ring.new.numbers) w.deref_mut.ensures.value w.mark_ring.ensures) in
+          (subst (λ old. DartsGetNumber t.edges (ring (map_of_rotation t) (signed_edge t.edges c.loop-dart.dart)) c.loop-dart.count old w.mark_ring.new.numbers) w.deref_mut.ensures.value w.mark_ring.ensures) in
           let items =
           ap (λ v. v.items) w.numbers-is ∙ with_items_is c.loop-dart.numbers w.mark_ring.new.numbers (w.mark_ring.ensures.size ∙ ap length w.deref_mut.ensures.value ∙ sym c.loop-dart.numbers.ok.0) in
-          subst (λ xs. AreNumbered t.edges (ring (map_of_rotation t)) (c.loop-dart.dart + 1) c.if-is_none.count xs) (sym items)
-          (subst (λ k. AreNumbered t.edges (ring (map_of_rotation t)) (c.loop-dart.dart + 1) k w.mark_ring.new.numbers) (sym w.count-is) next)
+          subst (λ xs. FirstAreNumbered t.edges (ring (map_of_rotation t)) (c.loop-dart.dart + 1) c.if-is_none.count xs) (sym items)
+          (subst (λ k. FirstAreNumbered t.edges (ring (map_of_rotation t)) (c.loop-dart.dart + 1) k w.mark_ring.new.numbers) (sym w.count-is) next)
       | else-is_none w ↦
           let some = is_its_value c.index.result.now (c.is_none.ensures ∙ ap not w.if-is_none.false) in
           let next =
           numbered_skip t.edges (signed_edges (map_of_rotation t)) (ring (map_of_rotation t)) (ring_partition (own_rows t) is.rotation) (there t is) c.loop-dart.dart c.loop-dart.count some.0 c.loop-dart.numbers.items c.loop-dart.invariant (sym read ∙ some.1) in
-          subst (λ v. AreNumbered t.edges (ring (map_of_rotation t)) (c.loop-dart.dart + 1) c.if-is_none.count v.items) (sym w.numbers-is)
-          (subst (λ k. AreNumbered t.edges (ring (map_of_rotation t)) (c.loop-dart.dart + 1) k c.loop-dart.numbers.items) (sym w.count-is) next)
+          subst (λ v. FirstAreNumbered t.edges (ring (map_of_rotation t)) (c.loop-dart.dart + 1) c.if-is_none.count v.items) (sym w.numbers-is)
+          (subst (λ k. FirstAreNumbered t.edges (ring (map_of_rotation t)) (c.loop-dart.dart + 1) k c.loop-dart.numbers.items) (sym w.count-is) next)
     ]
 
 pub all_numbers-requires : goal.all_numbers-requires
@@ -56,7 +56,7 @@ returns-clause-numbers c =
     let is = c.edges-darts.ensures.rotation in
     let all : c.loop-dart.dart ≡ 2 * length t.edges = (let a = c.edges-darts.ensures.edges in let b = c.loop-dart-test.false in let d = c.loop-dart.auto.dart-end in omega arith) in
     numbers_are t.edges (signed_edges (map_of_rotation t)) (ring (map_of_rotation t)) (ring_partition (own_rows t) is.rotation) (there t is) c.loop-dart.count c.loop-dart.numbers.items
-    (subst (λ k. AreNumbered t.edges (ring (map_of_rotation t)) k c.loop-dart.count c.loop-dart.numbers.items) all c.loop-dart.invariant)
+    (subst (λ k. FirstAreNumbered t.edges (ring (map_of_rotation t)) k c.loop-dart.count c.loop-dart.numbers.items) all c.loop-dart.invariant)
     c.new.result c.new.ensures.count (c.new.ensures.of_darts ∙ c.in_ok-all_numbers.ensures ∙ ap (map (λ n. unwrap_or n 0)) c.deref.ensures.value)
 
 pub returns-clause-count : goal.returns-clause-count

@@ -1,6 +1,6 @@
 use Rattle.std.proofs.Common.{refl}
 use Rattle.bit_words.specs.Digits.{digits}
-use Rattle.bit_words.specs.Lists.{tabulate}
+use Rattle.bit_words.specs.Lists.{tabulate, first_some}
 use Rattle.bit_words.specs.Words.{words_in}
 use Rattle.bit_words.specs.WrongEntry.{first_wrong}
 use Rattle.bit_words.specs.Bits.{rank, select, excess, is_set, word_bits, bit_of, bits_in, stream, field_at, fields_in}
@@ -8,8 +8,8 @@ use Rattle.rank_select.specs.Counts.{counts_of}
 use Rattle.min_max_tree.specs.Tree.{span_at, size_at, start_at, least, total_of, least_of, node, levels, nodes_of, sizes_from, tree_size}
 use Rattle.parens.specs.Matching.{close_of, open_of, mate_of, pair_number, falling, innermost, balance_fault}
 use Rattle.code_laws.specs.Code.{is_first, mate, component_of, after, before}
-use Rattle.code_laws.specs.Numbers.{edge_of, node_of, ring_of, pair_round, first_of_edge, first_of_node, first_of_shell}
-use Rattle.code_laws.specs.SeqFault.{seq_fault, first_some}
+use Rattle.code_laws.specs.Numbers.{edge_of, node_of, ring_of, enclosing_pair, first_of_edge, first_of_node, first_of_shell}
+use Rattle.code_laws.specs.SeqFault.{seq_fault}
 use Rattle.id_names.specs.Names.{number_of, is_names}
 use Rattle.id_names.specs.Faults as name_faults
 use Rattle.id_names.specs.Inverse.{walk}
@@ -35,88 +35,88 @@ use Rattle.file_laws.proofs.Wanted.{wide_words}
 use Rattle.file_laws.proofs.worked.cut_files.Goals as goal
 
 pub returns-clause-cut_10 : goal.returns-clause-cut_10
-unfolding digits tabulate words_in first_wrong rank select excess is_set word_bits bit_of bits_in stream field_at fields_in counts_of span_at size_at start_at least total_of least_of node levels nodes_of sizes_from tree_size close_of open_of mate_of pair_number falling innermost balance_fault is_first mate component_of after before edge_of node_of ring_of pair_round first_of_edge first_of_node first_of_shell seq_fault first_some number_of is_names name_faults.first_some name_faults.name_fault walk high_part rising_at ids_by_number making.places_of making.rising making.high_bits mark_at mark_of sha256 first_words schedule rounds compress hash_after digest_bytes walks.until_return sets.grown_by put rising signed_edges smallest reached_through upward parent_number words_of bytes_of joined packed signed_at node_at face_at forward_position digest_fault place_fault order_fault isolated_fault places_fault start_fault member_fault sections section_words total_words file_words words_before section section_from part bits_at fields_at names_at ids_at contents_of front_fault count_fault directories_fault names_fault all_names_fault regions_fault padding_from padding_fault content_fault map_of_file first_fault is_whole has_sizes has_room_for filled image_of
+unfolding digits tabulate words_in first_wrong rank select excess is_set word_bits bit_of bits_in stream field_at fields_in counts_of span_at size_at start_at least total_of least_of node levels nodes_of sizes_from tree_size close_of open_of mate_of pair_number falling innermost balance_fault is_first mate component_of after before edge_of node_of ring_of enclosing_pair first_of_edge first_of_node first_of_shell seq_fault first_some number_of is_names name_faults.name_fault walk high_part rising_at ids_by_number making.places_of making.rising making.high_bits mark_at mark_of sha256 first_words schedule rounds compress hash_after digest_bytes walks.until_return sets.grown_by put rising signed_edges smallest reached_through upward parent_number words_of bytes_of joined packed signed_at node_at face_at forward_position digest_fault place_fault order_fault isolated_fault places_fault start_fault member_fault sections section_words total_words file_words words_before section section_from part bits_at fields_at names_at ids_at contents_of front_fault count_fault directories_fault names_fault all_names_fault regions_fault padding_from padding_fault content_fault map_of_file first_fault is_whole has_sizes has_room_for filled image_of
 returns-clause-cut_10 c = refl
 
 pub returns-clause-cut_11 : goal.returns-clause-cut_11
-unfolding digits tabulate words_in first_wrong rank select excess is_set word_bits bit_of bits_in stream field_at fields_in counts_of span_at size_at start_at least total_of least_of node levels nodes_of sizes_from tree_size close_of open_of mate_of pair_number falling innermost balance_fault is_first mate component_of after before edge_of node_of ring_of pair_round first_of_edge first_of_node first_of_shell seq_fault first_some number_of is_names name_faults.first_some name_faults.name_fault walk high_part rising_at ids_by_number making.places_of making.rising making.high_bits mark_at mark_of sha256 first_words schedule rounds compress hash_after digest_bytes walks.until_return sets.grown_by put rising signed_edges smallest reached_through upward parent_number words_of bytes_of joined packed signed_at node_at face_at forward_position digest_fault place_fault order_fault isolated_fault places_fault start_fault member_fault sections section_words total_words file_words words_before section section_from part bits_at fields_at names_at ids_at contents_of front_fault count_fault directories_fault names_fault all_names_fault regions_fault padding_from padding_fault content_fault map_of_file first_fault is_whole has_sizes has_room_for filled image_of
+unfolding digits tabulate words_in first_wrong rank select excess is_set word_bits bit_of bits_in stream field_at fields_in counts_of span_at size_at start_at least total_of least_of node levels nodes_of sizes_from tree_size close_of open_of mate_of pair_number falling innermost balance_fault is_first mate component_of after before edge_of node_of ring_of enclosing_pair first_of_edge first_of_node first_of_shell seq_fault first_some number_of is_names name_faults.name_fault walk high_part rising_at ids_by_number making.places_of making.rising making.high_bits mark_at mark_of sha256 first_words schedule rounds compress hash_after digest_bytes walks.until_return sets.grown_by put rising signed_edges smallest reached_through upward parent_number words_of bytes_of joined packed signed_at node_at face_at forward_position digest_fault place_fault order_fault isolated_fault places_fault start_fault member_fault sections section_words total_words file_words words_before section section_from part bits_at fields_at names_at ids_at contents_of front_fault count_fault directories_fault names_fault all_names_fault regions_fault padding_from padding_fault content_fault map_of_file first_fault is_whole has_sizes has_room_for filled image_of
 returns-clause-cut_11 c = refl
 
 pub returns-clause-cut_14 : goal.returns-clause-cut_14
-unfolding digits tabulate words_in first_wrong rank select excess is_set word_bits bit_of bits_in stream field_at fields_in counts_of span_at size_at start_at least total_of least_of node levels nodes_of sizes_from tree_size close_of open_of mate_of pair_number falling innermost balance_fault is_first mate component_of after before edge_of node_of ring_of pair_round first_of_edge first_of_node first_of_shell seq_fault first_some number_of is_names name_faults.first_some name_faults.name_fault walk high_part rising_at ids_by_number making.places_of making.rising making.high_bits mark_at mark_of sha256 first_words schedule rounds compress hash_after digest_bytes walks.until_return sets.grown_by put rising signed_edges smallest reached_through upward parent_number words_of bytes_of joined packed signed_at node_at face_at forward_position digest_fault place_fault order_fault isolated_fault places_fault start_fault member_fault sections section_words total_words file_words words_before section section_from part bits_at fields_at names_at ids_at contents_of front_fault count_fault directories_fault names_fault all_names_fault regions_fault padding_from padding_fault content_fault map_of_file first_fault is_whole has_sizes has_room_for filled image_of
+unfolding digits tabulate words_in first_wrong rank select excess is_set word_bits bit_of bits_in stream field_at fields_in counts_of span_at size_at start_at least total_of least_of node levels nodes_of sizes_from tree_size close_of open_of mate_of pair_number falling innermost balance_fault is_first mate component_of after before edge_of node_of ring_of enclosing_pair first_of_edge first_of_node first_of_shell seq_fault first_some number_of is_names name_faults.name_fault walk high_part rising_at ids_by_number making.places_of making.rising making.high_bits mark_at mark_of sha256 first_words schedule rounds compress hash_after digest_bytes walks.until_return sets.grown_by put rising signed_edges smallest reached_through upward parent_number words_of bytes_of joined packed signed_at node_at face_at forward_position digest_fault place_fault order_fault isolated_fault places_fault start_fault member_fault sections section_words total_words file_words words_before section section_from part bits_at fields_at names_at ids_at contents_of front_fault count_fault directories_fault names_fault all_names_fault regions_fault padding_from padding_fault content_fault map_of_file first_fault is_whole has_sizes has_room_for filled image_of
 returns-clause-cut_14 c = refl
 
 pub returns-clause-cut_15 : goal.returns-clause-cut_15
-unfolding digits tabulate words_in first_wrong rank select excess is_set word_bits bit_of bits_in stream field_at fields_in counts_of span_at size_at start_at least total_of least_of node levels nodes_of sizes_from tree_size close_of open_of mate_of pair_number falling innermost balance_fault is_first mate component_of after before edge_of node_of ring_of pair_round first_of_edge first_of_node first_of_shell seq_fault first_some number_of is_names name_faults.first_some name_faults.name_fault walk high_part rising_at ids_by_number making.places_of making.rising making.high_bits mark_at mark_of sha256 first_words schedule rounds compress hash_after digest_bytes walks.until_return sets.grown_by put rising signed_edges smallest reached_through upward parent_number words_of bytes_of joined packed signed_at node_at face_at forward_position digest_fault place_fault order_fault isolated_fault places_fault start_fault member_fault sections section_words total_words file_words words_before section section_from part bits_at fields_at names_at ids_at contents_of front_fault count_fault directories_fault names_fault all_names_fault regions_fault padding_from padding_fault content_fault map_of_file first_fault is_whole has_sizes has_room_for filled image_of
+unfolding digits tabulate words_in first_wrong rank select excess is_set word_bits bit_of bits_in stream field_at fields_in counts_of span_at size_at start_at least total_of least_of node levels nodes_of sizes_from tree_size close_of open_of mate_of pair_number falling innermost balance_fault is_first mate component_of after before edge_of node_of ring_of enclosing_pair first_of_edge first_of_node first_of_shell seq_fault first_some number_of is_names name_faults.name_fault walk high_part rising_at ids_by_number making.places_of making.rising making.high_bits mark_at mark_of sha256 first_words schedule rounds compress hash_after digest_bytes walks.until_return sets.grown_by put rising signed_edges smallest reached_through upward parent_number words_of bytes_of joined packed signed_at node_at face_at forward_position digest_fault place_fault order_fault isolated_fault places_fault start_fault member_fault sections section_words total_words file_words words_before section section_from part bits_at fields_at names_at ids_at contents_of front_fault count_fault directories_fault names_fault all_names_fault regions_fault padding_from padding_fault content_fault map_of_file first_fault is_whole has_sizes has_room_for filled image_of
 returns-clause-cut_15 c = refl
 
 pub returns-clause-cut_51 : goal.returns-clause-cut_51
-unfolding digits tabulate words_in first_wrong rank select excess is_set word_bits bit_of bits_in stream field_at fields_in counts_of span_at size_at start_at least total_of least_of node levels nodes_of sizes_from tree_size close_of open_of mate_of pair_number falling innermost balance_fault is_first mate component_of after before edge_of node_of ring_of pair_round first_of_edge first_of_node first_of_shell seq_fault first_some number_of is_names name_faults.first_some name_faults.name_fault walk high_part rising_at ids_by_number making.places_of making.rising making.high_bits mark_at mark_of sha256 first_words schedule rounds compress hash_after digest_bytes walks.until_return sets.grown_by put rising signed_edges smallest reached_through upward parent_number words_of bytes_of joined packed signed_at node_at face_at forward_position digest_fault place_fault order_fault isolated_fault places_fault start_fault member_fault sections section_words total_words file_words words_before section section_from part bits_at fields_at names_at ids_at contents_of front_fault count_fault directories_fault names_fault all_names_fault regions_fault padding_from padding_fault content_fault map_of_file first_fault is_whole has_sizes has_room_for filled image_of
+unfolding digits tabulate words_in first_wrong rank select excess is_set word_bits bit_of bits_in stream field_at fields_in counts_of span_at size_at start_at least total_of least_of node levels nodes_of sizes_from tree_size close_of open_of mate_of pair_number falling innermost balance_fault is_first mate component_of after before edge_of node_of ring_of enclosing_pair first_of_edge first_of_node first_of_shell seq_fault first_some number_of is_names name_faults.name_fault walk high_part rising_at ids_by_number making.places_of making.rising making.high_bits mark_at mark_of sha256 first_words schedule rounds compress hash_after digest_bytes walks.until_return sets.grown_by put rising signed_edges smallest reached_through upward parent_number words_of bytes_of joined packed signed_at node_at face_at forward_position digest_fault place_fault order_fault isolated_fault places_fault start_fault member_fault sections section_words total_words file_words words_before section section_from part bits_at fields_at names_at ids_at contents_of front_fault count_fault directories_fault names_fault all_names_fault regions_fault padding_from padding_fault content_fault map_of_file first_fault is_whole has_sizes has_room_for filled image_of
 returns-clause-cut_51 c = refl
 
 pub returns-clause-cut_byte : goal.returns-clause-cut_byte
-unfolding digits tabulate words_in first_wrong rank select excess is_set word_bits bit_of bits_in stream field_at fields_in counts_of span_at size_at start_at least total_of least_of node levels nodes_of sizes_from tree_size close_of open_of mate_of pair_number falling innermost balance_fault is_first mate component_of after before edge_of node_of ring_of pair_round first_of_edge first_of_node first_of_shell seq_fault first_some number_of is_names name_faults.first_some name_faults.name_fault walk high_part rising_at ids_by_number making.places_of making.rising making.high_bits mark_at mark_of sha256 first_words schedule rounds compress hash_after digest_bytes walks.until_return sets.grown_by put rising signed_edges smallest reached_through upward parent_number words_of bytes_of joined packed signed_at node_at face_at forward_position digest_fault place_fault order_fault isolated_fault places_fault start_fault member_fault sections section_words total_words file_words words_before section section_from part bits_at fields_at names_at ids_at contents_of front_fault count_fault directories_fault names_fault all_names_fault regions_fault padding_from padding_fault content_fault map_of_file first_fault is_whole has_sizes has_room_for filled image_of
+unfolding digits tabulate words_in first_wrong rank select excess is_set word_bits bit_of bits_in stream field_at fields_in counts_of span_at size_at start_at least total_of least_of node levels nodes_of sizes_from tree_size close_of open_of mate_of pair_number falling innermost balance_fault is_first mate component_of after before edge_of node_of ring_of enclosing_pair first_of_edge first_of_node first_of_shell seq_fault first_some number_of is_names name_faults.name_fault walk high_part rising_at ids_by_number making.places_of making.rising making.high_bits mark_at mark_of sha256 first_words schedule rounds compress hash_after digest_bytes walks.until_return sets.grown_by put rising signed_edges smallest reached_through upward parent_number words_of bytes_of joined packed signed_at node_at face_at forward_position digest_fault place_fault order_fault isolated_fault places_fault start_fault member_fault sections section_words total_words file_words words_before section section_from part bits_at fields_at names_at ids_at contents_of front_fault count_fault directories_fault names_fault all_names_fault regions_fault padding_from padding_fault content_fault map_of_file first_fault is_whole has_sizes has_room_for filled image_of
 returns-clause-cut_byte c = refl
 
 pub returns-clause-form_0 : goal.returns-clause-form_0
-unfolding digits tabulate words_in first_wrong rank select excess is_set word_bits bit_of bits_in stream field_at fields_in counts_of span_at size_at start_at least total_of least_of node levels nodes_of sizes_from tree_size close_of open_of mate_of pair_number falling innermost balance_fault is_first mate component_of after before edge_of node_of ring_of pair_round first_of_edge first_of_node first_of_shell seq_fault first_some number_of is_names name_faults.first_some name_faults.name_fault walk high_part rising_at ids_by_number making.places_of making.rising making.high_bits mark_at mark_of sha256 first_words schedule rounds compress hash_after digest_bytes walks.until_return sets.grown_by put rising signed_edges smallest reached_through upward parent_number words_of bytes_of joined packed signed_at node_at face_at forward_position digest_fault place_fault order_fault isolated_fault places_fault start_fault member_fault sections section_words total_words file_words words_before section section_from part bits_at fields_at names_at ids_at contents_of front_fault count_fault directories_fault names_fault all_names_fault regions_fault padding_from padding_fault content_fault map_of_file first_fault is_whole has_sizes has_room_for filled image_of
+unfolding digits tabulate words_in first_wrong rank select excess is_set word_bits bit_of bits_in stream field_at fields_in counts_of span_at size_at start_at least total_of least_of node levels nodes_of sizes_from tree_size close_of open_of mate_of pair_number falling innermost balance_fault is_first mate component_of after before edge_of node_of ring_of enclosing_pair first_of_edge first_of_node first_of_shell seq_fault first_some number_of is_names name_faults.name_fault walk high_part rising_at ids_by_number making.places_of making.rising making.high_bits mark_at mark_of sha256 first_words schedule rounds compress hash_after digest_bytes walks.until_return sets.grown_by put rising signed_edges smallest reached_through upward parent_number words_of bytes_of joined packed signed_at node_at face_at forward_position digest_fault place_fault order_fault isolated_fault places_fault start_fault member_fault sections section_words total_words file_words words_before section section_from part bits_at fields_at names_at ids_at contents_of front_fault count_fault directories_fault names_fault all_names_fault regions_fault padding_from padding_fault content_fault map_of_file first_fault is_whole has_sizes has_room_for filled image_of
 returns-clause-form_0 c = refl
 
 pub returns-clause-form_3 : goal.returns-clause-form_3
-unfolding digits tabulate words_in first_wrong rank select excess is_set word_bits bit_of bits_in stream field_at fields_in counts_of span_at size_at start_at least total_of least_of node levels nodes_of sizes_from tree_size close_of open_of mate_of pair_number falling innermost balance_fault is_first mate component_of after before edge_of node_of ring_of pair_round first_of_edge first_of_node first_of_shell seq_fault first_some number_of is_names name_faults.first_some name_faults.name_fault walk high_part rising_at ids_by_number making.places_of making.rising making.high_bits mark_at mark_of sha256 first_words schedule rounds compress hash_after digest_bytes walks.until_return sets.grown_by put rising signed_edges smallest reached_through upward parent_number words_of bytes_of joined packed signed_at node_at face_at forward_position digest_fault place_fault order_fault isolated_fault places_fault start_fault member_fault sections section_words total_words file_words words_before section section_from part bits_at fields_at names_at ids_at contents_of front_fault count_fault directories_fault names_fault all_names_fault regions_fault padding_from padding_fault content_fault map_of_file first_fault is_whole has_sizes has_room_for filled image_of
+unfolding digits tabulate words_in first_wrong rank select excess is_set word_bits bit_of bits_in stream field_at fields_in counts_of span_at size_at start_at least total_of least_of node levels nodes_of sizes_from tree_size close_of open_of mate_of pair_number falling innermost balance_fault is_first mate component_of after before edge_of node_of ring_of enclosing_pair first_of_edge first_of_node first_of_shell seq_fault first_some number_of is_names name_faults.name_fault walk high_part rising_at ids_by_number making.places_of making.rising making.high_bits mark_at mark_of sha256 first_words schedule rounds compress hash_after digest_bytes walks.until_return sets.grown_by put rising signed_edges smallest reached_through upward parent_number words_of bytes_of joined packed signed_at node_at face_at forward_position digest_fault place_fault order_fault isolated_fault places_fault start_fault member_fault sections section_words total_words file_words words_before section section_from part bits_at fields_at names_at ids_at contents_of front_fault count_fault directories_fault names_fault all_names_fault regions_fault padding_from padding_fault content_fault map_of_file first_fault is_whole has_sizes has_room_for filled image_of
 returns-clause-form_3 c = refl
 
 pub returns-clause-another_width : goal.returns-clause-another_width
-unfolding digits tabulate words_in first_wrong rank select excess is_set word_bits bit_of bits_in stream field_at fields_in counts_of span_at size_at start_at least total_of least_of node levels nodes_of sizes_from tree_size close_of open_of mate_of pair_number falling innermost balance_fault is_first mate component_of after before edge_of node_of ring_of pair_round first_of_edge first_of_node first_of_shell seq_fault first_some number_of is_names name_faults.first_some name_faults.name_fault walk high_part rising_at ids_by_number making.places_of making.rising making.high_bits mark_at mark_of sha256 first_words schedule rounds compress hash_after digest_bytes walks.until_return sets.grown_by put rising signed_edges smallest reached_through upward parent_number words_of bytes_of joined packed signed_at node_at face_at forward_position digest_fault place_fault order_fault isolated_fault places_fault start_fault member_fault sections section_words total_words file_words words_before section section_from part bits_at fields_at names_at ids_at contents_of front_fault count_fault directories_fault names_fault all_names_fault regions_fault padding_from padding_fault content_fault map_of_file first_fault is_whole has_sizes has_room_for filled image_of
+unfolding digits tabulate words_in first_wrong rank select excess is_set word_bits bit_of bits_in stream field_at fields_in counts_of span_at size_at start_at least total_of least_of node levels nodes_of sizes_from tree_size close_of open_of mate_of pair_number falling innermost balance_fault is_first mate component_of after before edge_of node_of ring_of enclosing_pair first_of_edge first_of_node first_of_shell seq_fault first_some number_of is_names name_faults.name_fault walk high_part rising_at ids_by_number making.places_of making.rising making.high_bits mark_at mark_of sha256 first_words schedule rounds compress hash_after digest_bytes walks.until_return sets.grown_by put rising signed_edges smallest reached_through upward parent_number words_of bytes_of joined packed signed_at node_at face_at forward_position digest_fault place_fault order_fault isolated_fault places_fault start_fault member_fault sections section_words total_words file_words words_before section section_from part bits_at fields_at names_at ids_at contents_of front_fault count_fault directories_fault names_fault all_names_fault regions_fault padding_from padding_fault content_fault map_of_file first_fault is_whole has_sizes has_room_for filled image_of
 returns-clause-another_width c = refl
 
 pub returns-clause-wide_cut : goal.returns-clause-wide_cut
-unfolding digits tabulate words_in first_wrong rank select excess is_set word_bits bit_of bits_in stream field_at fields_in counts_of span_at size_at start_at least total_of least_of node levels nodes_of sizes_from tree_size close_of open_of mate_of pair_number falling innermost balance_fault is_first mate component_of after before edge_of node_of ring_of pair_round first_of_edge first_of_node first_of_shell seq_fault first_some number_of is_names name_faults.first_some name_faults.name_fault walk high_part rising_at ids_by_number making.places_of making.rising making.high_bits mark_at mark_of sha256 first_words schedule rounds compress hash_after digest_bytes walks.until_return sets.grown_by put rising signed_edges smallest reached_through upward parent_number words_of bytes_of joined packed signed_at node_at face_at forward_position digest_fault place_fault order_fault isolated_fault places_fault start_fault member_fault sections section_words total_words file_words words_before section section_from part bits_at fields_at names_at ids_at contents_of front_fault count_fault directories_fault names_fault all_names_fault regions_fault padding_from padding_fault content_fault map_of_file first_fault is_whole has_sizes has_room_for filled image_of
+unfolding digits tabulate words_in first_wrong rank select excess is_set word_bits bit_of bits_in stream field_at fields_in counts_of span_at size_at start_at least total_of least_of node levels nodes_of sizes_from tree_size close_of open_of mate_of pair_number falling innermost balance_fault is_first mate component_of after before edge_of node_of ring_of enclosing_pair first_of_edge first_of_node first_of_shell seq_fault first_some number_of is_names name_faults.name_fault walk high_part rising_at ids_by_number making.places_of making.rising making.high_bits mark_at mark_of sha256 first_words schedule rounds compress hash_after digest_bytes walks.until_return sets.grown_by put rising signed_edges smallest reached_through upward parent_number words_of bytes_of joined packed signed_at node_at face_at forward_position digest_fault place_fault order_fault isolated_fault places_fault start_fault member_fault sections section_words total_words file_words words_before section section_from part bits_at fields_at names_at ids_at contents_of front_fault count_fault directories_fault names_fault all_names_fault regions_fault padding_from padding_fault content_fault map_of_file first_fault is_whole has_sizes has_room_for filled image_of
 returns-clause-wide_cut c = refl
 
 pub returns-clause-wide_want : goal.returns-clause-wide_want
 returns-clause-wide_want c = wide_words
 
 pub returns-clause-old_digest : goal.returns-clause-old_digest
-unfolding digits tabulate words_in first_wrong rank select excess is_set word_bits bit_of bits_in stream field_at fields_in counts_of span_at size_at start_at least total_of least_of node levels nodes_of sizes_from tree_size close_of open_of mate_of pair_number falling innermost balance_fault is_first mate component_of after before edge_of node_of ring_of pair_round first_of_edge first_of_node first_of_shell seq_fault first_some number_of is_names name_faults.first_some name_faults.name_fault walk high_part rising_at ids_by_number making.places_of making.rising making.high_bits mark_at mark_of sha256 first_words schedule rounds compress hash_after digest_bytes walks.until_return sets.grown_by put rising signed_edges smallest reached_through upward parent_number words_of bytes_of joined packed signed_at node_at face_at forward_position digest_fault place_fault order_fault isolated_fault places_fault start_fault member_fault sections section_words total_words file_words words_before section section_from part bits_at fields_at names_at ids_at contents_of front_fault count_fault directories_fault names_fault all_names_fault regions_fault padding_from padding_fault content_fault map_of_file first_fault is_whole has_sizes has_room_for filled image_of
+unfolding digits tabulate words_in first_wrong rank select excess is_set word_bits bit_of bits_in stream field_at fields_in counts_of span_at size_at start_at least total_of least_of node levels nodes_of sizes_from tree_size close_of open_of mate_of pair_number falling innermost balance_fault is_first mate component_of after before edge_of node_of ring_of enclosing_pair first_of_edge first_of_node first_of_shell seq_fault first_some number_of is_names name_faults.name_fault walk high_part rising_at ids_by_number making.places_of making.rising making.high_bits mark_at mark_of sha256 first_words schedule rounds compress hash_after digest_bytes walks.until_return sets.grown_by put rising signed_edges smallest reached_through upward parent_number words_of bytes_of joined packed signed_at node_at face_at forward_position digest_fault place_fault order_fault isolated_fault places_fault start_fault member_fault sections section_words total_words file_words words_before section section_from part bits_at fields_at names_at ids_at contents_of front_fault count_fault directories_fault names_fault all_names_fault regions_fault padding_from padding_fault content_fault map_of_file first_fault is_whole has_sizes has_room_for filled image_of
 returns-clause-old_digest c = refl
 
 pub returns-clause-no_components : goal.returns-clause-no_components
-unfolding digits tabulate words_in first_wrong rank select excess is_set word_bits bit_of bits_in stream field_at fields_in counts_of span_at size_at start_at least total_of least_of node levels nodes_of sizes_from tree_size close_of open_of mate_of pair_number falling innermost balance_fault is_first mate component_of after before edge_of node_of ring_of pair_round first_of_edge first_of_node first_of_shell seq_fault first_some number_of is_names name_faults.first_some name_faults.name_fault walk high_part rising_at ids_by_number making.places_of making.rising making.high_bits mark_at mark_of sha256 first_words schedule rounds compress hash_after digest_bytes walks.until_return sets.grown_by put rising signed_edges smallest reached_through upward parent_number words_of bytes_of joined packed signed_at node_at face_at forward_position digest_fault place_fault order_fault isolated_fault places_fault start_fault member_fault sections section_words total_words file_words words_before section section_from part bits_at fields_at names_at ids_at contents_of front_fault count_fault directories_fault names_fault all_names_fault regions_fault padding_from padding_fault content_fault map_of_file first_fault is_whole has_sizes has_room_for filled image_of
+unfolding digits tabulate words_in first_wrong rank select excess is_set word_bits bit_of bits_in stream field_at fields_in counts_of span_at size_at start_at least total_of least_of node levels nodes_of sizes_from tree_size close_of open_of mate_of pair_number falling innermost balance_fault is_first mate component_of after before edge_of node_of ring_of enclosing_pair first_of_edge first_of_node first_of_shell seq_fault first_some number_of is_names name_faults.name_fault walk high_part rising_at ids_by_number making.places_of making.rising making.high_bits mark_at mark_of sha256 first_words schedule rounds compress hash_after digest_bytes walks.until_return sets.grown_by put rising signed_edges smallest reached_through upward parent_number words_of bytes_of joined packed signed_at node_at face_at forward_position digest_fault place_fault order_fault isolated_fault places_fault start_fault member_fault sections section_words total_words file_words words_before section section_from part bits_at fields_at names_at ids_at contents_of front_fault count_fault directories_fault names_fault all_names_fault regions_fault padding_from padding_fault content_fault map_of_file first_fault is_whole has_sizes has_room_for filled image_of
 returns-clause-no_components c = refl
 
 pub returns-clause-many_nodes : goal.returns-clause-many_nodes
-unfolding digits tabulate words_in first_wrong rank select excess is_set word_bits bit_of bits_in stream field_at fields_in counts_of span_at size_at start_at least total_of least_of node levels nodes_of sizes_from tree_size close_of open_of mate_of pair_number falling innermost balance_fault is_first mate component_of after before edge_of node_of ring_of pair_round first_of_edge first_of_node first_of_shell seq_fault first_some number_of is_names name_faults.first_some name_faults.name_fault walk high_part rising_at ids_by_number making.places_of making.rising making.high_bits mark_at mark_of sha256 first_words schedule rounds compress hash_after digest_bytes walks.until_return sets.grown_by put rising signed_edges smallest reached_through upward parent_number words_of bytes_of joined packed signed_at node_at face_at forward_position digest_fault place_fault order_fault isolated_fault places_fault start_fault member_fault sections section_words total_words file_words words_before section section_from part bits_at fields_at names_at ids_at contents_of front_fault count_fault directories_fault names_fault all_names_fault regions_fault padding_from padding_fault content_fault map_of_file first_fault is_whole has_sizes has_room_for filled image_of
+unfolding digits tabulate words_in first_wrong rank select excess is_set word_bits bit_of bits_in stream field_at fields_in counts_of span_at size_at start_at least total_of least_of node levels nodes_of sizes_from tree_size close_of open_of mate_of pair_number falling innermost balance_fault is_first mate component_of after before edge_of node_of ring_of enclosing_pair first_of_edge first_of_node first_of_shell seq_fault first_some number_of is_names name_faults.name_fault walk high_part rising_at ids_by_number making.places_of making.rising making.high_bits mark_at mark_of sha256 first_words schedule rounds compress hash_after digest_bytes walks.until_return sets.grown_by put rising signed_edges smallest reached_through upward parent_number words_of bytes_of joined packed signed_at node_at face_at forward_position digest_fault place_fault order_fault isolated_fault places_fault start_fault member_fault sections section_words total_words file_words words_before section section_from part bits_at fields_at names_at ids_at contents_of front_fault count_fault directories_fault names_fault all_names_fault regions_fault padding_from padding_fault content_fault map_of_file first_fault is_whole has_sizes has_room_for filled image_of
 returns-clause-many_nodes c = refl
 
 pub returns-clause-as_many_regions : goal.returns-clause-as_many_regions
-unfolding digits tabulate words_in first_wrong rank select excess is_set word_bits bit_of bits_in stream field_at fields_in counts_of span_at size_at start_at least total_of least_of node levels nodes_of sizes_from tree_size close_of open_of mate_of pair_number falling innermost balance_fault is_first mate component_of after before edge_of node_of ring_of pair_round first_of_edge first_of_node first_of_shell seq_fault first_some number_of is_names name_faults.first_some name_faults.name_fault walk high_part rising_at ids_by_number making.places_of making.rising making.high_bits mark_at mark_of sha256 first_words schedule rounds compress hash_after digest_bytes walks.until_return sets.grown_by put rising signed_edges smallest reached_through upward parent_number words_of bytes_of joined packed signed_at node_at face_at forward_position digest_fault place_fault order_fault isolated_fault places_fault start_fault member_fault sections section_words total_words file_words words_before section section_from part bits_at fields_at names_at ids_at contents_of front_fault count_fault directories_fault names_fault all_names_fault regions_fault padding_from padding_fault content_fault map_of_file first_fault is_whole has_sizes has_room_for filled image_of
+unfolding digits tabulate words_in first_wrong rank select excess is_set word_bits bit_of bits_in stream field_at fields_in counts_of span_at size_at start_at least total_of least_of node levels nodes_of sizes_from tree_size close_of open_of mate_of pair_number falling innermost balance_fault is_first mate component_of after before edge_of node_of ring_of enclosing_pair first_of_edge first_of_node first_of_shell seq_fault first_some number_of is_names name_faults.name_fault walk high_part rising_at ids_by_number making.places_of making.rising making.high_bits mark_at mark_of sha256 first_words schedule rounds compress hash_after digest_bytes walks.until_return sets.grown_by put rising signed_edges smallest reached_through upward parent_number words_of bytes_of joined packed signed_at node_at face_at forward_position digest_fault place_fault order_fault isolated_fault places_fault start_fault member_fault sections section_words total_words file_words words_before section section_from part bits_at fields_at names_at ids_at contents_of front_fault count_fault directories_fault names_fault all_names_fault regions_fault padding_from padding_fault content_fault map_of_file first_fault is_whole has_sizes has_room_for filled image_of
 returns-clause-as_many_regions c = refl
 
 pub returns-clause-many_regions : goal.returns-clause-many_regions
-unfolding digits tabulate words_in first_wrong rank select excess is_set word_bits bit_of bits_in stream field_at fields_in counts_of span_at size_at start_at least total_of least_of node levels nodes_of sizes_from tree_size close_of open_of mate_of pair_number falling innermost balance_fault is_first mate component_of after before edge_of node_of ring_of pair_round first_of_edge first_of_node first_of_shell seq_fault first_some number_of is_names name_faults.first_some name_faults.name_fault walk high_part rising_at ids_by_number making.places_of making.rising making.high_bits mark_at mark_of sha256 first_words schedule rounds compress hash_after digest_bytes walks.until_return sets.grown_by put rising signed_edges smallest reached_through upward parent_number words_of bytes_of joined packed signed_at node_at face_at forward_position digest_fault place_fault order_fault isolated_fault places_fault start_fault member_fault sections section_words total_words file_words words_before section section_from part bits_at fields_at names_at ids_at contents_of front_fault count_fault directories_fault names_fault all_names_fault regions_fault padding_from padding_fault content_fault map_of_file first_fault is_whole has_sizes has_room_for filled image_of
+unfolding digits tabulate words_in first_wrong rank select excess is_set word_bits bit_of bits_in stream field_at fields_in counts_of span_at size_at start_at least total_of least_of node levels nodes_of sizes_from tree_size close_of open_of mate_of pair_number falling innermost balance_fault is_first mate component_of after before edge_of node_of ring_of enclosing_pair first_of_edge first_of_node first_of_shell seq_fault first_some number_of is_names name_faults.name_fault walk high_part rising_at ids_by_number making.places_of making.rising making.high_bits mark_at mark_of sha256 first_words schedule rounds compress hash_after digest_bytes walks.until_return sets.grown_by put rising signed_edges smallest reached_through upward parent_number words_of bytes_of joined packed signed_at node_at face_at forward_position digest_fault place_fault order_fault isolated_fault places_fault start_fault member_fault sections section_words total_words file_words words_before section section_from part bits_at fields_at names_at ids_at contents_of front_fault count_fault directories_fault names_fault all_names_fault regions_fault padding_from padding_fault content_fault map_of_file first_fault is_whole has_sizes has_room_for filled image_of
 returns-clause-many_regions c = refl
 
 pub returns-clause-many_edges : goal.returns-clause-many_edges
-unfolding digits tabulate words_in first_wrong rank select excess is_set word_bits bit_of bits_in stream field_at fields_in counts_of span_at size_at start_at least total_of least_of node levels nodes_of sizes_from tree_size close_of open_of mate_of pair_number falling innermost balance_fault is_first mate component_of after before edge_of node_of ring_of pair_round first_of_edge first_of_node first_of_shell seq_fault first_some number_of is_names name_faults.first_some name_faults.name_fault walk high_part rising_at ids_by_number making.places_of making.rising making.high_bits mark_at mark_of sha256 first_words schedule rounds compress hash_after digest_bytes walks.until_return sets.grown_by put rising signed_edges smallest reached_through upward parent_number words_of bytes_of joined packed signed_at node_at face_at forward_position digest_fault place_fault order_fault isolated_fault places_fault start_fault member_fault sections section_words total_words file_words words_before section section_from part bits_at fields_at names_at ids_at contents_of front_fault count_fault directories_fault names_fault all_names_fault regions_fault padding_from padding_fault content_fault map_of_file first_fault is_whole has_sizes has_room_for filled image_of
+unfolding digits tabulate words_in first_wrong rank select excess is_set word_bits bit_of bits_in stream field_at fields_in counts_of span_at size_at start_at least total_of least_of node levels nodes_of sizes_from tree_size close_of open_of mate_of pair_number falling innermost balance_fault is_first mate component_of after before edge_of node_of ring_of enclosing_pair first_of_edge first_of_node first_of_shell seq_fault first_some number_of is_names name_faults.name_fault walk high_part rising_at ids_by_number making.places_of making.rising making.high_bits mark_at mark_of sha256 first_words schedule rounds compress hash_after digest_bytes walks.until_return sets.grown_by put rising signed_edges smallest reached_through upward parent_number words_of bytes_of joined packed signed_at node_at face_at forward_position digest_fault place_fault order_fault isolated_fault places_fault start_fault member_fault sections section_words total_words file_words words_before section section_from part bits_at fields_at names_at ids_at contents_of front_fault count_fault directories_fault names_fault all_names_fault regions_fault padding_from padding_fault content_fault map_of_file first_fault is_whole has_sizes has_room_for filled image_of
 returns-clause-many_edges c = refl
 
 pub returns-clause-many_tree_edges : goal.returns-clause-many_tree_edges
-unfolding digits tabulate words_in first_wrong rank select excess is_set word_bits bit_of bits_in stream field_at fields_in counts_of span_at size_at start_at least total_of least_of node levels nodes_of sizes_from tree_size close_of open_of mate_of pair_number falling innermost balance_fault is_first mate component_of after before edge_of node_of ring_of pair_round first_of_edge first_of_node first_of_shell seq_fault first_some number_of is_names name_faults.first_some name_faults.name_fault walk high_part rising_at ids_by_number making.places_of making.rising making.high_bits mark_at mark_of sha256 first_words schedule rounds compress hash_after digest_bytes walks.until_return sets.grown_by put rising signed_edges smallest reached_through upward parent_number words_of bytes_of joined packed signed_at node_at face_at forward_position digest_fault place_fault order_fault isolated_fault places_fault start_fault member_fault sections section_words total_words file_words words_before section section_from part bits_at fields_at names_at ids_at contents_of front_fault count_fault directories_fault names_fault all_names_fault regions_fault padding_from padding_fault content_fault map_of_file first_fault is_whole has_sizes has_room_for filled image_of
+unfolding digits tabulate words_in first_wrong rank select excess is_set word_bits bit_of bits_in stream field_at fields_in counts_of span_at size_at start_at least total_of least_of node levels nodes_of sizes_from tree_size close_of open_of mate_of pair_number falling innermost balance_fault is_first mate component_of after before edge_of node_of ring_of enclosing_pair first_of_edge first_of_node first_of_shell seq_fault first_some number_of is_names name_faults.name_fault walk high_part rising_at ids_by_number making.places_of making.rising making.high_bits mark_at mark_of sha256 first_words schedule rounds compress hash_after digest_bytes walks.until_return sets.grown_by put rising signed_edges smallest reached_through upward parent_number words_of bytes_of joined packed signed_at node_at face_at forward_position digest_fault place_fault order_fault isolated_fault places_fault start_fault member_fault sections section_words total_words file_words words_before section section_from part bits_at fields_at names_at ids_at contents_of front_fault count_fault directories_fault names_fault all_names_fault regions_fault padding_from padding_fault content_fault map_of_file first_fault is_whole has_sizes has_room_for filled image_of
 returns-clause-many_tree_edges c = refl
 
 pub returns-clause-many_node_pointers : goal.returns-clause-many_node_pointers
-unfolding digits tabulate words_in first_wrong rank select excess is_set word_bits bit_of bits_in stream field_at fields_in counts_of span_at size_at start_at least total_of least_of node levels nodes_of sizes_from tree_size close_of open_of mate_of pair_number falling innermost balance_fault is_first mate component_of after before edge_of node_of ring_of pair_round first_of_edge first_of_node first_of_shell seq_fault first_some number_of is_names name_faults.first_some name_faults.name_fault walk high_part rising_at ids_by_number making.places_of making.rising making.high_bits mark_at mark_of sha256 first_words schedule rounds compress hash_after digest_bytes walks.until_return sets.grown_by put rising signed_edges smallest reached_through upward parent_number words_of bytes_of joined packed signed_at node_at face_at forward_position digest_fault place_fault order_fault isolated_fault places_fault start_fault member_fault sections section_words total_words file_words words_before section section_from part bits_at fields_at names_at ids_at contents_of front_fault count_fault directories_fault names_fault all_names_fault regions_fault padding_from padding_fault content_fault map_of_file first_fault is_whole has_sizes has_room_for filled image_of
+unfolding digits tabulate words_in first_wrong rank select excess is_set word_bits bit_of bits_in stream field_at fields_in counts_of span_at size_at start_at least total_of least_of node levels nodes_of sizes_from tree_size close_of open_of mate_of pair_number falling innermost balance_fault is_first mate component_of after before edge_of node_of ring_of enclosing_pair first_of_edge first_of_node first_of_shell seq_fault first_some number_of is_names name_faults.name_fault walk high_part rising_at ids_by_number making.places_of making.rising making.high_bits mark_at mark_of sha256 first_words schedule rounds compress hash_after digest_bytes walks.until_return sets.grown_by put rising signed_edges smallest reached_through upward parent_number words_of bytes_of joined packed signed_at node_at face_at forward_position digest_fault place_fault order_fault isolated_fault places_fault start_fault member_fault sections section_words total_words file_words words_before section section_from part bits_at fields_at names_at ids_at contents_of front_fault count_fault directories_fault names_fault all_names_fault regions_fault padding_from padding_fault content_fault map_of_file first_fault is_whole has_sizes has_room_for filled image_of
 returns-clause-many_node_pointers c = refl
 
 pub returns-clause-many_edge_pointers : goal.returns-clause-many_edge_pointers
-unfolding digits tabulate words_in first_wrong rank select excess is_set word_bits bit_of bits_in stream field_at fields_in counts_of span_at size_at start_at least total_of least_of node levels nodes_of sizes_from tree_size close_of open_of mate_of pair_number falling innermost balance_fault is_first mate component_of after before edge_of node_of ring_of pair_round first_of_edge first_of_node first_of_shell seq_fault first_some number_of is_names name_faults.first_some name_faults.name_fault walk high_part rising_at ids_by_number making.places_of making.rising making.high_bits mark_at mark_of sha256 first_words schedule rounds compress hash_after digest_bytes walks.until_return sets.grown_by put rising signed_edges smallest reached_through upward parent_number words_of bytes_of joined packed signed_at node_at face_at forward_position digest_fault place_fault order_fault isolated_fault places_fault start_fault member_fault sections section_words total_words file_words words_before section section_from part bits_at fields_at names_at ids_at contents_of front_fault count_fault directories_fault names_fault all_names_fault regions_fault padding_from padding_fault content_fault map_of_file first_fault is_whole has_sizes has_room_for filled image_of
+unfolding digits tabulate words_in first_wrong rank select excess is_set word_bits bit_of bits_in stream field_at fields_in counts_of span_at size_at start_at least total_of least_of node levels nodes_of sizes_from tree_size close_of open_of mate_of pair_number falling innermost balance_fault is_first mate component_of after before edge_of node_of ring_of enclosing_pair first_of_edge first_of_node first_of_shell seq_fault first_some number_of is_names name_faults.name_fault walk high_part rising_at ids_by_number making.places_of making.rising making.high_bits mark_at mark_of sha256 first_words schedule rounds compress hash_after digest_bytes walks.until_return sets.grown_by put rising signed_edges smallest reached_through upward parent_number words_of bytes_of joined packed signed_at node_at face_at forward_position digest_fault place_fault order_fault isolated_fault places_fault start_fault member_fault sections section_words total_words file_words words_before section section_from part bits_at fields_at names_at ids_at contents_of front_fault count_fault directories_fault names_fault all_names_fault regions_fault padding_from padding_fault content_fault map_of_file first_fault is_whole has_sizes has_room_for filled image_of
 returns-clause-many_edge_pointers c = refl
 
 pub returns-clause-many_face_pointers : goal.returns-clause-many_face_pointers
-unfolding digits tabulate words_in first_wrong rank select excess is_set word_bits bit_of bits_in stream field_at fields_in counts_of span_at size_at start_at least total_of least_of node levels nodes_of sizes_from tree_size close_of open_of mate_of pair_number falling innermost balance_fault is_first mate component_of after before edge_of node_of ring_of pair_round first_of_edge first_of_node first_of_shell seq_fault first_some number_of is_names name_faults.first_some name_faults.name_fault walk high_part rising_at ids_by_number making.places_of making.rising making.high_bits mark_at mark_of sha256 first_words schedule rounds compress hash_after digest_bytes walks.until_return sets.grown_by put rising signed_edges smallest reached_through upward parent_number words_of bytes_of joined packed signed_at node_at face_at forward_position digest_fault place_fault order_fault isolated_fault places_fault start_fault member_fault sections section_words total_words file_words words_before section section_from part bits_at fields_at names_at ids_at contents_of front_fault count_fault directories_fault names_fault all_names_fault regions_fault padding_from padding_fault content_fault map_of_file first_fault is_whole has_sizes has_room_for filled image_of
+unfolding digits tabulate words_in first_wrong rank select excess is_set word_bits bit_of bits_in stream field_at fields_in counts_of span_at size_at start_at least total_of least_of node levels nodes_of sizes_from tree_size close_of open_of mate_of pair_number falling innermost balance_fault is_first mate component_of after before edge_of node_of ring_of enclosing_pair first_of_edge first_of_node first_of_shell seq_fault first_some number_of is_names name_faults.name_fault walk high_part rising_at ids_by_number making.places_of making.rising making.high_bits mark_at mark_of sha256 first_words schedule rounds compress hash_after digest_bytes walks.until_return sets.grown_by put rising signed_edges smallest reached_through upward parent_number words_of bytes_of joined packed signed_at node_at face_at forward_position digest_fault place_fault order_fault isolated_fault places_fault start_fault member_fault sections section_words total_words file_words words_before section section_from part bits_at fields_at names_at ids_at contents_of front_fault count_fault directories_fault names_fault all_names_fault regions_fault padding_from padding_fault content_fault map_of_file first_fault is_whole has_sizes has_room_for filled image_of
 returns-clause-many_face_pointers c = refl
 
 pub returns-clause-many_region_pointers : goal.returns-clause-many_region_pointers
-unfolding digits tabulate words_in first_wrong rank select excess is_set word_bits bit_of bits_in stream field_at fields_in counts_of span_at size_at start_at least total_of least_of node levels nodes_of sizes_from tree_size close_of open_of mate_of pair_number falling innermost balance_fault is_first mate component_of after before edge_of node_of ring_of pair_round first_of_edge first_of_node first_of_shell seq_fault first_some number_of is_names name_faults.first_some name_faults.name_fault walk high_part rising_at ids_by_number making.places_of making.rising making.high_bits mark_at mark_of sha256 first_words schedule rounds compress hash_after digest_bytes walks.until_return sets.grown_by put rising signed_edges smallest reached_through upward parent_number words_of bytes_of joined packed signed_at node_at face_at forward_position digest_fault place_fault order_fault isolated_fault places_fault start_fault member_fault sections section_words total_words file_words words_before section section_from part bits_at fields_at names_at ids_at contents_of front_fault count_fault directories_fault names_fault all_names_fault regions_fault padding_from padding_fault content_fault map_of_file first_fault is_whole has_sizes has_room_for filled image_of
+unfolding digits tabulate words_in first_wrong rank select excess is_set word_bits bit_of bits_in stream field_at fields_in counts_of span_at size_at start_at least total_of least_of node levels nodes_of sizes_from tree_size close_of open_of mate_of pair_number falling innermost balance_fault is_first mate component_of after before edge_of node_of ring_of enclosing_pair first_of_edge first_of_node first_of_shell seq_fault first_some number_of is_names name_faults.name_fault walk high_part rising_at ids_by_number making.places_of making.rising making.high_bits mark_at mark_of sha256 first_words schedule rounds compress hash_after digest_bytes walks.until_return sets.grown_by put rising signed_edges smallest reached_through upward parent_number words_of bytes_of joined packed signed_at node_at face_at forward_position digest_fault place_fault order_fault isolated_fault places_fault start_fault member_fault sections section_words total_words file_words words_before section section_from part bits_at fields_at names_at ids_at contents_of front_fault count_fault directories_fault names_fault all_names_fault regions_fault padding_from padding_fault content_fault map_of_file first_fault is_whole has_sizes has_room_for filled image_of
 returns-clause-many_region_pointers c = refl

@@ -1,6 +1,6 @@
 use Rattle.std.proofs.Common.{refl}
 use Rattle.bit_words.specs.Digits.{digits}
-use Rattle.bit_words.specs.Lists.{tabulate}
+use Rattle.bit_words.specs.Lists.{tabulate, first_some}
 use Rattle.bit_words.specs.Words.{words_in}
 use Rattle.bit_words.specs.WrongEntry.{first_wrong}
 use Rattle.bit_words.specs.Bits.{rank, select, excess, is_set, word_bits, bit_of, bits_in, stream, field_at, fields_in}
@@ -8,8 +8,8 @@ use Rattle.rank_select.specs.Counts.{counts_of}
 use Rattle.min_max_tree.specs.Tree.{span_at, size_at, start_at, least, total_of, least_of, node, levels, nodes_of, sizes_from, tree_size}
 use Rattle.parens.specs.Matching.{close_of, open_of, mate_of, pair_number, falling, innermost, balance_fault}
 use Rattle.code_laws.specs.Code.{is_first, mate, component_of, after, before}
-use Rattle.code_laws.specs.Numbers.{edge_of, node_of, ring_of, pair_round, first_of_edge, first_of_node, first_of_shell}
-use Rattle.code_laws.specs.SeqFault.{seq_fault, first_some}
+use Rattle.code_laws.specs.Numbers.{edge_of, node_of, ring_of, enclosing_pair, first_of_edge, first_of_node, first_of_shell}
+use Rattle.code_laws.specs.SeqFault.{seq_fault}
 use Rattle.id_names.specs.Names.{number_of, is_names}
 use Rattle.id_names.specs.Faults as name_faults
 use Rattle.id_names.specs.Inverse.{walk}
@@ -34,41 +34,41 @@ use Rattle.file_laws.specs.Lawful.{content_fault, map_of_file, first_fault, is_w
 use Rattle.file_laws.proofs.worked.wide_triangle_file.Goals as goal
 
 pub returns-clause-wide_length : goal.returns-clause-wide_length
-unfolding digits tabulate words_in first_wrong rank select excess is_set word_bits bit_of bits_in stream field_at fields_in counts_of span_at size_at start_at least total_of least_of node levels nodes_of sizes_from tree_size close_of open_of mate_of pair_number falling innermost balance_fault is_first mate component_of after before edge_of node_of ring_of pair_round first_of_edge first_of_node first_of_shell seq_fault first_some number_of is_names name_faults.first_some name_faults.name_fault walk high_part rising_at ids_by_number making.places_of making.rising making.high_bits mark_at mark_of sha256 first_words schedule rounds compress hash_after digest_bytes walks.until_return sets.grown_by put rising signed_edges smallest reached_through upward parent_number words_of bytes_of joined packed signed_at node_at face_at forward_position digest_fault place_fault order_fault isolated_fault places_fault start_fault member_fault sections section_words total_words file_words words_before section section_from part bits_at fields_at names_at ids_at contents_of front_fault count_fault directories_fault names_fault all_names_fault regions_fault padding_from padding_fault content_fault map_of_file first_fault is_whole has_sizes has_room_for filled image_of
+unfolding digits tabulate words_in first_wrong rank select excess is_set word_bits bit_of bits_in stream field_at fields_in counts_of span_at size_at start_at least total_of least_of node levels nodes_of sizes_from tree_size close_of open_of mate_of pair_number falling innermost balance_fault is_first mate component_of after before edge_of node_of ring_of enclosing_pair first_of_edge first_of_node first_of_shell seq_fault first_some number_of is_names name_faults.name_fault walk high_part rising_at ids_by_number making.places_of making.rising making.high_bits mark_at mark_of sha256 first_words schedule rounds compress hash_after digest_bytes walks.until_return sets.grown_by put rising signed_edges smallest reached_through upward parent_number words_of bytes_of joined packed signed_at node_at face_at forward_position digest_fault place_fault order_fault isolated_fault places_fault start_fault member_fault sections section_words total_words file_words words_before section section_from part bits_at fields_at names_at ids_at contents_of front_fault count_fault directories_fault names_fault all_names_fault regions_fault padding_from padding_fault content_fault map_of_file first_fault is_whole has_sizes has_room_for filled image_of
 returns-clause-wide_length c = refl
 
 pub returns-clause-lawful_wide : goal.returns-clause-lawful_wide
-unfolding digits tabulate words_in first_wrong rank select excess is_set word_bits bit_of bits_in stream field_at fields_in counts_of span_at size_at start_at least total_of least_of node levels nodes_of sizes_from tree_size close_of open_of mate_of pair_number falling innermost balance_fault is_first mate component_of after before edge_of node_of ring_of pair_round first_of_edge first_of_node first_of_shell seq_fault first_some number_of is_names name_faults.first_some name_faults.name_fault walk high_part rising_at ids_by_number making.places_of making.rising making.high_bits mark_at mark_of sha256 first_words schedule rounds compress hash_after digest_bytes walks.until_return sets.grown_by put rising signed_edges smallest reached_through upward parent_number words_of bytes_of joined packed signed_at node_at face_at forward_position digest_fault place_fault order_fault isolated_fault places_fault start_fault member_fault sections section_words total_words file_words words_before section section_from part bits_at fields_at names_at ids_at contents_of front_fault count_fault directories_fault names_fault all_names_fault regions_fault padding_from padding_fault content_fault map_of_file first_fault is_whole has_sizes has_room_for filled image_of
+unfolding digits tabulate words_in first_wrong rank select excess is_set word_bits bit_of bits_in stream field_at fields_in counts_of span_at size_at start_at least total_of least_of node levels nodes_of sizes_from tree_size close_of open_of mate_of pair_number falling innermost balance_fault is_first mate component_of after before edge_of node_of ring_of enclosing_pair first_of_edge first_of_node first_of_shell seq_fault first_some number_of is_names name_faults.name_fault walk high_part rising_at ids_by_number making.places_of making.rising making.high_bits mark_at mark_of sha256 first_words schedule rounds compress hash_after digest_bytes walks.until_return sets.grown_by put rising signed_edges smallest reached_through upward parent_number words_of bytes_of joined packed signed_at node_at face_at forward_position digest_fault place_fault order_fault isolated_fault places_fault start_fault member_fault sections section_words total_words file_words words_before section section_from part bits_at fields_at names_at ids_at contents_of front_fault count_fault directories_fault names_fault all_names_fault regions_fault padding_from padding_fault content_fault map_of_file first_fault is_whole has_sizes has_room_for filled image_of
 returns-clause-lawful_wide c = refl
 
 pub returns-clause-wide_map : goal.returns-clause-wide_map
-unfolding digits tabulate words_in first_wrong rank select excess is_set word_bits bit_of bits_in stream field_at fields_in counts_of span_at size_at start_at least total_of least_of node levels nodes_of sizes_from tree_size close_of open_of mate_of pair_number falling innermost balance_fault is_first mate component_of after before edge_of node_of ring_of pair_round first_of_edge first_of_node first_of_shell seq_fault first_some number_of is_names name_faults.first_some name_faults.name_fault walk high_part rising_at ids_by_number making.places_of making.rising making.high_bits mark_at mark_of sha256 first_words schedule rounds compress hash_after digest_bytes walks.until_return sets.grown_by put rising signed_edges smallest reached_through upward parent_number words_of bytes_of joined packed signed_at node_at face_at forward_position digest_fault place_fault order_fault isolated_fault places_fault start_fault member_fault sections section_words total_words file_words words_before section section_from part bits_at fields_at names_at ids_at contents_of front_fault count_fault directories_fault names_fault all_names_fault regions_fault padding_from padding_fault content_fault map_of_file first_fault is_whole has_sizes has_room_for filled image_of
+unfolding digits tabulate words_in first_wrong rank select excess is_set word_bits bit_of bits_in stream field_at fields_in counts_of span_at size_at start_at least total_of least_of node levels nodes_of sizes_from tree_size close_of open_of mate_of pair_number falling innermost balance_fault is_first mate component_of after before edge_of node_of ring_of enclosing_pair first_of_edge first_of_node first_of_shell seq_fault first_some number_of is_names name_faults.name_fault walk high_part rising_at ids_by_number making.places_of making.rising making.high_bits mark_at mark_of sha256 first_words schedule rounds compress hash_after digest_bytes walks.until_return sets.grown_by put rising signed_edges smallest reached_through upward parent_number words_of bytes_of joined packed signed_at node_at face_at forward_position digest_fault place_fault order_fault isolated_fault places_fault start_fault member_fault sections section_words total_words file_words words_before section section_from part bits_at fields_at names_at ids_at contents_of front_fault count_fault directories_fault names_fault all_names_fault regions_fault padding_from padding_fault content_fault map_of_file first_fault is_whole has_sizes has_room_for filled image_of
 returns-clause-wide_map c = refl
 
 pub returns-clause-wide_contents : goal.returns-clause-wide_contents
-unfolding digits tabulate words_in first_wrong rank select excess is_set word_bits bit_of bits_in stream field_at fields_in counts_of span_at size_at start_at least total_of least_of node levels nodes_of sizes_from tree_size close_of open_of mate_of pair_number falling innermost balance_fault is_first mate component_of after before edge_of node_of ring_of pair_round first_of_edge first_of_node first_of_shell seq_fault first_some number_of is_names name_faults.first_some name_faults.name_fault walk high_part rising_at ids_by_number making.places_of making.rising making.high_bits mark_at mark_of sha256 first_words schedule rounds compress hash_after digest_bytes walks.until_return sets.grown_by put rising signed_edges smallest reached_through upward parent_number words_of bytes_of joined packed signed_at node_at face_at forward_position digest_fault place_fault order_fault isolated_fault places_fault start_fault member_fault sections section_words total_words file_words words_before section section_from part bits_at fields_at names_at ids_at contents_of front_fault count_fault directories_fault names_fault all_names_fault regions_fault padding_from padding_fault content_fault map_of_file first_fault is_whole has_sizes has_room_for filled image_of
+unfolding digits tabulate words_in first_wrong rank select excess is_set word_bits bit_of bits_in stream field_at fields_in counts_of span_at size_at start_at least total_of least_of node levels nodes_of sizes_from tree_size close_of open_of mate_of pair_number falling innermost balance_fault is_first mate component_of after before edge_of node_of ring_of enclosing_pair first_of_edge first_of_node first_of_shell seq_fault first_some number_of is_names name_faults.name_fault walk high_part rising_at ids_by_number making.places_of making.rising making.high_bits mark_at mark_of sha256 first_words schedule rounds compress hash_after digest_bytes walks.until_return sets.grown_by put rising signed_edges smallest reached_through upward parent_number words_of bytes_of joined packed signed_at node_at face_at forward_position digest_fault place_fault order_fault isolated_fault places_fault start_fault member_fault sections section_words total_words file_words words_before section section_from part bits_at fields_at names_at ids_at contents_of front_fault count_fault directories_fault names_fault all_names_fault regions_fault padding_from padding_fault content_fault map_of_file first_fault is_whole has_sizes has_room_for filled image_of
 returns-clause-wide_contents c = refl
 
 pub returns-clause-wide_image : goal.returns-clause-wide_image
-unfolding digits tabulate words_in first_wrong rank select excess is_set word_bits bit_of bits_in stream field_at fields_in counts_of span_at size_at start_at least total_of least_of node levels nodes_of sizes_from tree_size close_of open_of mate_of pair_number falling innermost balance_fault is_first mate component_of after before edge_of node_of ring_of pair_round first_of_edge first_of_node first_of_shell seq_fault first_some number_of is_names name_faults.first_some name_faults.name_fault walk high_part rising_at ids_by_number making.places_of making.rising making.high_bits mark_at mark_of sha256 first_words schedule rounds compress hash_after digest_bytes walks.until_return sets.grown_by put rising signed_edges smallest reached_through upward parent_number words_of bytes_of joined packed signed_at node_at face_at forward_position digest_fault place_fault order_fault isolated_fault places_fault start_fault member_fault sections section_words total_words file_words words_before section section_from part bits_at fields_at names_at ids_at contents_of front_fault count_fault directories_fault names_fault all_names_fault regions_fault padding_from padding_fault content_fault map_of_file first_fault is_whole has_sizes has_room_for filled image_of
+unfolding digits tabulate words_in first_wrong rank select excess is_set word_bits bit_of bits_in stream field_at fields_in counts_of span_at size_at start_at least total_of least_of node levels nodes_of sizes_from tree_size close_of open_of mate_of pair_number falling innermost balance_fault is_first mate component_of after before edge_of node_of ring_of enclosing_pair first_of_edge first_of_node first_of_shell seq_fault first_some number_of is_names name_faults.name_fault walk high_part rising_at ids_by_number making.places_of making.rising making.high_bits mark_at mark_of sha256 first_words schedule rounds compress hash_after digest_bytes walks.until_return sets.grown_by put rising signed_edges smallest reached_through upward parent_number words_of bytes_of joined packed signed_at node_at face_at forward_position digest_fault place_fault order_fault isolated_fault places_fault start_fault member_fault sections section_words total_words file_words words_before section section_from part bits_at fields_at names_at ids_at contents_of front_fault count_fault directories_fault names_fault all_names_fault regions_fault padding_from padding_fault content_fault map_of_file first_fault is_whole has_sizes has_room_for filled image_of
 returns-clause-wide_image c = refl
 
 pub returns-clause-narrow_image : goal.returns-clause-narrow_image
-unfolding digits tabulate words_in first_wrong rank select excess is_set word_bits bit_of bits_in stream field_at fields_in counts_of span_at size_at start_at least total_of least_of node levels nodes_of sizes_from tree_size close_of open_of mate_of pair_number falling innermost balance_fault is_first mate component_of after before edge_of node_of ring_of pair_round first_of_edge first_of_node first_of_shell seq_fault first_some number_of is_names name_faults.first_some name_faults.name_fault walk high_part rising_at ids_by_number making.places_of making.rising making.high_bits mark_at mark_of sha256 first_words schedule rounds compress hash_after digest_bytes walks.until_return sets.grown_by put rising signed_edges smallest reached_through upward parent_number words_of bytes_of joined packed signed_at node_at face_at forward_position digest_fault place_fault order_fault isolated_fault places_fault start_fault member_fault sections section_words total_words file_words words_before section section_from part bits_at fields_at names_at ids_at contents_of front_fault count_fault directories_fault names_fault all_names_fault regions_fault padding_from padding_fault content_fault map_of_file first_fault is_whole has_sizes has_room_for filled image_of
+unfolding digits tabulate words_in first_wrong rank select excess is_set word_bits bit_of bits_in stream field_at fields_in counts_of span_at size_at start_at least total_of least_of node levels nodes_of sizes_from tree_size close_of open_of mate_of pair_number falling innermost balance_fault is_first mate component_of after before edge_of node_of ring_of enclosing_pair first_of_edge first_of_node first_of_shell seq_fault first_some number_of is_names name_faults.name_fault walk high_part rising_at ids_by_number making.places_of making.rising making.high_bits mark_at mark_of sha256 first_words schedule rounds compress hash_after digest_bytes walks.until_return sets.grown_by put rising signed_edges smallest reached_through upward parent_number words_of bytes_of joined packed signed_at node_at face_at forward_position digest_fault place_fault order_fault isolated_fault places_fault start_fault member_fault sections section_words total_words file_words words_before section section_from part bits_at fields_at names_at ids_at contents_of front_fault count_fault directories_fault names_fault all_names_fault regions_fault padding_from padding_fault content_fault map_of_file first_fault is_whole has_sizes has_room_for filled image_of
 returns-clause-narrow_image c = refl
 
 pub returns-clause-both_whole : goal.returns-clause-both_whole
-unfolding digits tabulate words_in first_wrong rank select excess is_set word_bits bit_of bits_in stream field_at fields_in counts_of span_at size_at start_at least total_of least_of node levels nodes_of sizes_from tree_size close_of open_of mate_of pair_number falling innermost balance_fault is_first mate component_of after before edge_of node_of ring_of pair_round first_of_edge first_of_node first_of_shell seq_fault first_some number_of is_names name_faults.first_some name_faults.name_fault walk high_part rising_at ids_by_number making.places_of making.rising making.high_bits mark_at mark_of sha256 first_words schedule rounds compress hash_after digest_bytes walks.until_return sets.grown_by put rising signed_edges smallest reached_through upward parent_number words_of bytes_of joined packed signed_at node_at face_at forward_position digest_fault place_fault order_fault isolated_fault places_fault start_fault member_fault sections section_words total_words file_words words_before section section_from part bits_at fields_at names_at ids_at contents_of front_fault count_fault directories_fault names_fault all_names_fault regions_fault padding_from padding_fault content_fault map_of_file first_fault is_whole has_sizes has_room_for filled image_of
+unfolding digits tabulate words_in first_wrong rank select excess is_set word_bits bit_of bits_in stream field_at fields_in counts_of span_at size_at start_at least total_of least_of node levels nodes_of sizes_from tree_size close_of open_of mate_of pair_number falling innermost balance_fault is_first mate component_of after before edge_of node_of ring_of enclosing_pair first_of_edge first_of_node first_of_shell seq_fault first_some number_of is_names name_faults.name_fault walk high_part rising_at ids_by_number making.places_of making.rising making.high_bits mark_at mark_of sha256 first_words schedule rounds compress hash_after digest_bytes walks.until_return sets.grown_by put rising signed_edges smallest reached_through upward parent_number words_of bytes_of joined packed signed_at node_at face_at forward_position digest_fault place_fault order_fault isolated_fault places_fault start_fault member_fault sections section_words total_words file_words words_before section section_from part bits_at fields_at names_at ids_at contents_of front_fault count_fault directories_fault names_fault all_names_fault regions_fault padding_from padding_fault content_fault map_of_file first_fault is_whole has_sizes has_room_for filled image_of
 returns-clause-both_whole c = refl
 
 pub returns-clause-narrow_room : goal.returns-clause-narrow_room
-unfolding digits tabulate words_in first_wrong rank select excess is_set word_bits bit_of bits_in stream field_at fields_in counts_of span_at size_at start_at least total_of least_of node levels nodes_of sizes_from tree_size close_of open_of mate_of pair_number falling innermost balance_fault is_first mate component_of after before edge_of node_of ring_of pair_round first_of_edge first_of_node first_of_shell seq_fault first_some number_of is_names name_faults.first_some name_faults.name_fault walk high_part rising_at ids_by_number making.places_of making.rising making.high_bits mark_at mark_of sha256 first_words schedule rounds compress hash_after digest_bytes walks.until_return sets.grown_by put rising signed_edges smallest reached_through upward parent_number words_of bytes_of joined packed signed_at node_at face_at forward_position digest_fault place_fault order_fault isolated_fault places_fault start_fault member_fault sections section_words total_words file_words words_before section section_from part bits_at fields_at names_at ids_at contents_of front_fault count_fault directories_fault names_fault all_names_fault regions_fault padding_from padding_fault content_fault map_of_file first_fault is_whole has_sizes has_room_for filled image_of
+unfolding digits tabulate words_in first_wrong rank select excess is_set word_bits bit_of bits_in stream field_at fields_in counts_of span_at size_at start_at least total_of least_of node levels nodes_of sizes_from tree_size close_of open_of mate_of pair_number falling innermost balance_fault is_first mate component_of after before edge_of node_of ring_of enclosing_pair first_of_edge first_of_node first_of_shell seq_fault first_some number_of is_names name_faults.name_fault walk high_part rising_at ids_by_number making.places_of making.rising making.high_bits mark_at mark_of sha256 first_words schedule rounds compress hash_after digest_bytes walks.until_return sets.grown_by put rising signed_edges smallest reached_through upward parent_number words_of bytes_of joined packed signed_at node_at face_at forward_position digest_fault place_fault order_fault isolated_fault places_fault start_fault member_fault sections section_words total_words file_words words_before section section_from part bits_at fields_at names_at ids_at contents_of front_fault count_fault directories_fault names_fault all_names_fault regions_fault padding_from padding_fault content_fault map_of_file first_fault is_whole has_sizes has_room_for filled image_of
 returns-clause-narrow_room c = refl
 
 pub returns-clause-great_id : goal.returns-clause-great_id
-unfolding digits tabulate words_in first_wrong rank select excess is_set word_bits bit_of bits_in stream field_at fields_in counts_of span_at size_at start_at least total_of least_of node levels nodes_of sizes_from tree_size close_of open_of mate_of pair_number falling innermost balance_fault is_first mate component_of after before edge_of node_of ring_of pair_round first_of_edge first_of_node first_of_shell seq_fault first_some number_of is_names name_faults.first_some name_faults.name_fault walk high_part rising_at ids_by_number making.places_of making.rising making.high_bits mark_at mark_of sha256 first_words schedule rounds compress hash_after digest_bytes walks.until_return sets.grown_by put rising signed_edges smallest reached_through upward parent_number words_of bytes_of joined packed signed_at node_at face_at forward_position digest_fault place_fault order_fault isolated_fault places_fault start_fault member_fault sections section_words total_words file_words words_before section section_from part bits_at fields_at names_at ids_at contents_of front_fault count_fault directories_fault names_fault all_names_fault regions_fault padding_from padding_fault content_fault map_of_file first_fault is_whole has_sizes has_room_for filled image_of
+unfolding digits tabulate words_in first_wrong rank select excess is_set word_bits bit_of bits_in stream field_at fields_in counts_of span_at size_at start_at least total_of least_of node levels nodes_of sizes_from tree_size close_of open_of mate_of pair_number falling innermost balance_fault is_first mate component_of after before edge_of node_of ring_of enclosing_pair first_of_edge first_of_node first_of_shell seq_fault first_some number_of is_names name_faults.name_fault walk high_part rising_at ids_by_number making.places_of making.rising making.high_bits mark_at mark_of sha256 first_words schedule rounds compress hash_after digest_bytes walks.until_return sets.grown_by put rising signed_edges smallest reached_through upward parent_number words_of bytes_of joined packed signed_at node_at face_at forward_position digest_fault place_fault order_fault isolated_fault places_fault start_fault member_fault sections section_words total_words file_words words_before section section_from part bits_at fields_at names_at ids_at contents_of front_fault count_fault directories_fault names_fault all_names_fault regions_fault padding_from padding_fault content_fault map_of_file first_fault is_whole has_sizes has_room_for filled image_of
 returns-clause-great_id c = refl
 
 pub returns-clause-no_narrow_room : goal.returns-clause-no_narrow_room
-unfolding digits tabulate words_in first_wrong rank select excess is_set word_bits bit_of bits_in stream field_at fields_in counts_of span_at size_at start_at least total_of least_of node levels nodes_of sizes_from tree_size close_of open_of mate_of pair_number falling innermost balance_fault is_first mate component_of after before edge_of node_of ring_of pair_round first_of_edge first_of_node first_of_shell seq_fault first_some number_of is_names name_faults.first_some name_faults.name_fault walk high_part rising_at ids_by_number making.places_of making.rising making.high_bits mark_at mark_of sha256 first_words schedule rounds compress hash_after digest_bytes walks.until_return sets.grown_by put rising signed_edges smallest reached_through upward parent_number words_of bytes_of joined packed signed_at node_at face_at forward_position digest_fault place_fault order_fault isolated_fault places_fault start_fault member_fault sections section_words total_words file_words words_before section section_from part bits_at fields_at names_at ids_at contents_of front_fault count_fault directories_fault names_fault all_names_fault regions_fault padding_from padding_fault content_fault map_of_file first_fault is_whole has_sizes has_room_for filled image_of
+unfolding digits tabulate words_in first_wrong rank select excess is_set word_bits bit_of bits_in stream field_at fields_in counts_of span_at size_at start_at least total_of least_of node levels nodes_of sizes_from tree_size close_of open_of mate_of pair_number falling innermost balance_fault is_first mate component_of after before edge_of node_of ring_of enclosing_pair first_of_edge first_of_node first_of_shell seq_fault first_some number_of is_names name_faults.name_fault walk high_part rising_at ids_by_number making.places_of making.rising making.high_bits mark_at mark_of sha256 first_words schedule rounds compress hash_after digest_bytes walks.until_return sets.grown_by put rising signed_edges smallest reached_through upward parent_number words_of bytes_of joined packed signed_at node_at face_at forward_position digest_fault place_fault order_fault isolated_fault places_fault start_fault member_fault sections section_words total_words file_words words_before section section_from part bits_at fields_at names_at ids_at contents_of front_fault count_fault directories_fault names_fault all_names_fault regions_fault padding_from padding_fault content_fault map_of_file first_fault is_whole has_sizes has_room_for filled image_of
 returns-clause-no_narrow_room c = refl

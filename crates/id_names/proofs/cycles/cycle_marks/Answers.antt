@@ -1,6 +1,6 @@
 use Rattle.std.proofs.Common.{◌≡◌, ◌<◌, ◌+◌, ◌∙◌, false, length, get_or, sym, ap, subst, arith, None}
 use Rattle.std.proofs.lemmas.List.{get_or_default, with_items_is}
-use Rattle.id_names.specs.Cycles.{AreMarked, AreVisited, cycle}
+use Rattle.id_names.specs.Cycles.{HavePointers, AreVisited, cycle}
 use Rattle.id_names.proofs.Sweeping.{IsSwept, swept_next, swept_skip, swept_all, members_fresh}
 use Rattle.id_names.proofs.cycles.cycle_marks.Goals as goal
 use Rattle.id_names.proofs.cycles.cycle_marks.Goals.{then-not-index, else-not-index}
@@ -25,7 +25,7 @@ loop-first-preserved c =
     elim c.if-not-index.branch [
       | then-not-index w ↦
           let v = subst (λ old. AreVisited (cycle places k) old w.visit_and_mark.new.visited) w.deref_mut.ensures.value w.visit_and_mark.ensures.visited in
-          let m = subst (λ old. AreMarked stride (cycle places k) old w.visit_and_mark.new.marks) w.deref_mut-then-not-index.ensures.value w.visit_and_mark.ensures.marks in
+          let m = subst (λ old. HavePointers stride (cycle places k) old w.visit_and_mark.new.marks) w.deref_mut-then-not-index.ensures.value w.visit_and_mark.ensures.marks in
           let next = swept_next places c.requires.places stride k c.loop-first.visited.items c.loop-first.marks.items s within (sym read ∙ w.if-not-index.true) w.visit_and_mark.new.visited w.visit_and_mark.new.marks v m in
           let visited_items = ap (λ v. v.items) w.visited-is ∙ with_items_is c.loop-first.visited w.visit_and_mark.new.visited (v.size ∙ sym c.loop-first.visited.ok.0) in
           let marks_items = ap (λ v. v.items) w.marks-is ∙ with_items_is c.loop-first.marks w.visit_and_mark.new.marks (m.size ∙ sym c.loop-first.marks.ok.0) in

@@ -1,7 +1,7 @@
 use Rattle.std.proofs.Common.{◌≡◌, ℕ, List, length, ap, sym, subst, ◌∙◌, arith}
 use Rattle.bit_words.specs.Bits.{HoldsBits}
 use Rattle.rank_select.specs.Counts.{counts_of}
-use Rattle.id_names.specs.Cycles.{ArePlaces, marked, back_pointers}
+use Rattle.id_names.specs.Cycles.{IsPlacePermutation, marked, back_pointers}
 use Rattle.id_names.specs.Inverse.{stride}
 use Rattle.id_names.specs.Making.{HoldsFields, place_width, places_of}
 use Rattle.id_names.proofs.MakingLaws.{ids_back, no_fault}
@@ -21,7 +21,7 @@ place_words-requires-clause-few c =
 pub place_words-requires-clause-places : goal.place_words-requires-clause-places
 place_words-requires-clause-places c =
     let r = are_rising c.args.ids.now c.in-Ok.entries.items c.requires.names.distinct c.in-Ok.ensures in
-    subst ArePlaces (sym (c.deref-3.ensures.value ∙ c.in-Ok-places_by_number.ensures)) (are_places c.args.ids.now c.in-Ok.entries.items r)
+    subst IsPlacePermutation (sym (c.deref-3.ensures.value ∙ c.in-Ok-places_by_number.ensures)) (are_places c.args.ids.now c.in-Ok.entries.items r)
 
 pub returns-clause-places : goal.returns-clause-places
 returns-clause-places c =

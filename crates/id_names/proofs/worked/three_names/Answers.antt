@@ -1,5 +1,5 @@
 use Rattle.std.proofs.Common.{refl}
-use Rattle.bit_words.specs.Lists.{tabulate}
+use Rattle.bit_words.specs.Lists.{tabulate, first_some}
 use Rattle.bit_words.specs.Bits.{is_set, word_bits, bit_of, bits_in, stream, field_at, fields_in, rank, select}
 use Rattle.bit_words.specs.Digits.{digits}
 use Rattle.rank_select.specs.Counts.{counts_of}
@@ -7,7 +7,7 @@ use Rattle.id_names.specs.Names.{number_of}
 use Rattle.id_names.specs.Rising.{high_part, rising_at}
 use Rattle.id_names.specs.Inverse.{walk}
 use Rattle.id_names.specs.RisingNames.{ids_by_number}
-use Rattle.id_names.specs.Faults.{first_some, name_fault}
+use Rattle.id_names.specs.Faults.{name_fault}
 use Rattle.id_names.proofs.worked.three_names.Goals as goal
 
 pub returns-clause-ids : goal.returns-clause-ids

@@ -1,6 +1,6 @@
 use Rattle.std.proofs.Common.{rules, ◌≡◌, ◌<◌, ℕ, Bool, List, length, true, [], ◌∷◌, ◌++◌, sym, ◌∙◌, subst, ap}
 use Rattle.std.specs.Prelude.{slice_index, slice_set}
-use Rattle.islands.specs.Rounds.{AreRoundRings, AreNextFaces, AreMarked}
+use Rattle.islands.specs.Rounds.{AreRoundRings, AreNextFaces, KeysAreMarked}
 use Rattle.islands.proofs.Numbered.{AreSoFar, step, at_end, at_begin}
 use Rattle.islands.proofs.Open.{falls}
 use Rattle.islands.proofs.Assembled.{these_of, front_of, rings_of, places_of}
@@ -65,8 +65,8 @@ loop-alloc-preserved c =
     c.in_ok-on_face.ensures.lists c.in_ok-now.ensures in
     let is_now : c.deref-in-loop-alloc-4.result.now ≡ now = c.deref-in-loop-alloc-4.ensures.value in
     let nexts : AreNextFaces F C now entered next = subst (λ (xs : List ℕ). AreNextFaces F C xs entered next) is_now c.in_ok-next.ensures.next in
-    let marked : AreMarked (slice_index C) now reached reached' = subst (λ (xs : List ℕ). AreMarked (slice_index C) xs reached reached') is_now c.in_ok-next.ensures.reached in
-    let opened : AreMarked (λ f. f) next entered entered' = c.in_ok-next.ensures.entered in
+    let marked : KeysAreMarked (slice_index C) now reached reached' = subst (λ (xs : List ℕ). KeysAreMarked (slice_index C) xs reached reached') is_now c.in_ok-next.ensures.reached in
+    let opened : KeysAreMarked (λ f. f) next entered entered' = c.in_ok-next.ensures.entered in
     record {
       so_far = subst (λ (xs : List ℕ). AreSoFar F C n next xs reached' entered') (ap (λ (xs : List ℕ). starts ++ xs) (sym c.deref-in-loop-alloc-5.ensures.value) ∙ sym c.in_ok-extend_from_slice.ensures.items)
           (step F C n c.args.component_count c.requires.below front starts reached entered c.loop-alloc.invariant.so_far now next reached' entered' these nexts marked opened);

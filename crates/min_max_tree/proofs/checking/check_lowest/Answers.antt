@@ -2,7 +2,7 @@ use Rattle.std.proofs.Common.{refl, arith, length, subst, ap, min, ◌∙◌, �
 use Rattle.bit_words.specs.BitView.{bits_of}
 use Rattle.bit_words.specs.WordView.{words_of}
 use Rattle.min_max_tree.specs.Tree.{start_at, nodes_of}
-use Rattle.min_max_tree.specs.Built.{Holds}
+use Rattle.min_max_tree.specs.Built.{HoldsFirst}
 use Rattle.min_max_tree.proofs.Levels.{start-up, start-zero}
 use Rattle.min_max_tree.proofs.Nodes.{node-at}
 use Rattle.min_max_tree.proofs.Sizes.{nodes-length, lowest}
@@ -70,7 +70,7 @@ returns-clause-checked g c =
     let z = start-zero (length bits) in
     let l = lowest (length bits) in
     let e : c.loop-block.block ≡ start_at (length bits) 1 = omega (arith, u, z, l, c.len-len.ensures, c.div_ceil-block-end.ensures, c.loop-block.auto.block-end, c.loop-block-test.false) in
-    subst (λ n. Holds (nodes_of bits) (words_of c.args.nodes.now) n) e c.loop-block.invariant.holds
+    subst (λ n. HoldsFirst (nodes_of bits) (words_of c.args.nodes.now) n) e c.loop-block.invariant.holds
 
 pub returns-clause-cost : goal.returns-clause-cost
 returns-clause-cost g c =

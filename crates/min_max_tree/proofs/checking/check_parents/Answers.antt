@@ -2,7 +2,7 @@ use Rattle.std.proofs.Common.{refl, arith, length, subst, sym, ap, ◌∙◌, �
 use Rattle.bit_words.specs.BitView.{bits_of}
 use Rattle.bit_words.specs.WordView.{words_of}
 use Rattle.min_max_tree.specs.Tree.{size_at, start_at, nodes_of}
-use Rattle.min_max_tree.specs.Built.{Holds}
+use Rattle.min_max_tree.specs.Built.{HoldsFirst}
 use Rattle.min_max_tree.proofs.Levels.{start-up}
 use Rattle.min_max_tree.proofs.Nodes.{node-order, node-at}
 use Rattle.min_max_tree.proofs.Sizes.{nodes-length, tree-le}
@@ -63,7 +63,7 @@ returns-then-found-want-clause-checked g c =
     let at = c.above-above.result.start + j in
     let e : at ≡ start_at (length bits) (h + 1) + j = omega (arith, m, c.above-above.ensures.level.start) in
     first-wrong (nodes_of bits) (words_of c.args.nodes.now) at c.word-found.result c.word-want.result
-    (subst (λ n. Holds (nodes_of bits) (words_of c.args.nodes.now) n) (sym e) c.loop-j.invariant.holds)
+    (subst (λ n. HoldsFirst (nodes_of bits) (words_of c.args.nodes.now) n) (sym e) c.loop-j.invariant.holds)
     (omega (arith, a.0, e)) c.word-found.ensures.word
     (c.word-want.ensures ∙ node-word bits (h + 1) j at c.parent_seen.result c.requires.few reached w c.parent_seen.ensures.run e)
     c.if-found-want.true
@@ -89,7 +89,7 @@ loop-j-preserved g c =
     let e : at ≡ start_at (length bits) (h + 1) + j = omega (arith, m, c.above-above.ensures.level.start) in
     record {
       holds = Holds-more (nodes_of bits) (words_of c.args.nodes.now) at _ c.word-found.result c.word-want.result
-          (subst (λ n. Holds (nodes_of bits) (words_of c.args.nodes.now) n) (sym e) c.loop-j.invariant.holds)
+          (subst (λ n. HoldsFirst (nodes_of bits) (words_of c.args.nodes.now) n) (sym e) c.loop-j.invariant.holds)
           c.word-found.ensures.word
           (c.word-want.ensures ∙ node-word bits (h + 1) j at c.parent_seen.result c.requires.few reached w c.parent_seen.ensures.run e)
           c.if-found-want.false (omega (arith, e));
@@ -105,7 +105,7 @@ returns-clause-checked g c =
     let u = start-up (length bits) (h + 1) in
     let t : start_at (length bits) (h + 1 + 1) ≡ start_at (length bits) (h + 2) = ap (start_at (length bits)) (let e : h + 1 + 1 ≡ h + 2 = omega arith in e) in
     let s : start_at (length bits) (h + 1) + c.loop-j.j ≡ start_at (length bits) (h + 2) = omega (arith, m, u, t, c.size-j-end.ensures, c.loop-j.auto.j-end, c.loop-j-test.false) in
-    subst (λ n. Holds (nodes_of bits) (words_of c.args.nodes.now) n) s c.loop-j.invariant.holds
+    subst (λ n. HoldsFirst (nodes_of bits) (words_of c.args.nodes.now) n) s c.loop-j.invariant.holds
 
 pub returns-clause-cost : goal.returns-clause-cost
 returns-clause-cost g c =

@@ -9,7 +9,7 @@ use Rattle.plane_model.specs.declared.rows.RegionRow.{RegionRow}
 use Rattle.plane_model.specs.Orders.{first_pair}
 use Rattle.plane_model.specs.Faults.{first_in, id_twice, no_parent, region_cycle}
 use Rattle.rotation_check.specs.Checked.{Names}
-use Rattle.region_tree.specs.Ancestors.{ArePlaces}
+use Rattle.region_tree.specs.Ancestors.{AreParentNumbers}
 use Rattle.region_tree.specs.ByPlace.{AreByPlace}
 use Rattle.region_tree.specs.Places.{AreParentPlaces}
 use Rattle.region_tree.specs.Checked.{missing_parent}
@@ -74,7 +74,7 @@ least_on_cycle-requires-clause-few c =
 pub least_on_cycle-requires-clause-places : goal.least_on_cycle-requires-clause-places
 least_on_cycle-requires-clause-places c =
     let at = goal.at.least_on_cycle-requires-clause-places c in
-    subst ArePlaces (sym c.deref-6.ensures.value) (are (at.In_ok-parents) (sorted (at.In_ok-ids))).places
+    subst AreParentNumbers (sym c.deref-6.ensures.value) (are (at.In_ok-parents) (sorted (at.In_ok-ids))).places
 
 pub index-requires : goal.index-requires
 index-requires c =

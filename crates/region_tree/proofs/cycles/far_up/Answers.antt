@@ -1,6 +1,6 @@
 use Rattle.std.proofs.Common.{◌≡◌, ◌+◌, ◌*◌, ◌∙◌, sym, ap, subst, arith, map}
 use Rattle.std.specs.Prelude.{option_and_then}
-use Rattle.region_tree.specs.Ancestors.{ArePlaces, ancestors, parent_at}
+use Rattle.region_tree.specs.Ancestors.{AreParentNumbers, ancestors, parent_at}
 use Rattle.region_tree.proofs.Steps.{ancestors-one, ancestors-places, doubled-ancestors}
 use Rattle.region_tree.proofs.cycles.far_up.Goals as goal
 
@@ -8,7 +8,7 @@ pub loop-steps-init : goal.loop-steps-init
 loop-steps-init c = record { some = omega arith; is = c.in_ok-far.ensures.items ∙ ancestors-one c.args.parents.now }
 
 pub doubled-requires : goal.doubled-requires
-doubled-requires c = subst ArePlaces (sym (c.deref.ensures.value ∙ c.loop-steps.invariant.is)) (ancestors-places c.args.parents.now c.requires.places c.loop-steps.steps)
+doubled-requires c = subst AreParentNumbers (sym (c.deref.ensures.value ∙ c.loop-steps.invariant.is)) (ancestors-places c.args.parents.now c.requires.places c.loop-steps.steps)
 
 pub loop-steps-preserved : goal.loop-steps-preserved
 loop-steps-preserved c =

@@ -9,7 +9,7 @@ use Rattle.plane_model.proofs.AllFaults.{none-region_fault}
 use Rattle.rotation_check.specs.Checked.{Names}
 use Rattle.region_tree.specs.ByPlace.{AreByPlace}
 use Rattle.region_tree.specs.Checked.{nesting_fault, member_fault}
-use Rattle.region_tree.specs.Numbering.{AreNumbered, AreMembers}
+use Rattle.region_tree.specs.Numbering.{RegionsAreNumbered, AreMembers}
 use Rattle.region_tree.specs.Parts.{member_places, region_ids}
 use Rattle.region_tree.specs.Ready.{IsReady}
 use Rattle.region_tree.specs.Tables.{region_map, region_tables}
@@ -91,8 +91,8 @@ returns-clause-numbered c =
     let m = region_map c.args.regions.now c.args.members.now c.args.faces.now in
     let bits = c.in_ok-number.field-0.bits.items in
     let back = regions_back (region_tables c.args.regions.now c.args.members.now c.args.faces.now) c.requires (forest d) in
-    let by_bits = subst (λ b. AreNumbered m b (region_ids m)) (sym (c.in_ok-number.ensures.bits m (ready d))) back in
-    subst (λ i. AreNumbered m bits i) (sym (c.in_ok-number.ensures.ids m (ready d))) by_bits
+    let by_bits = subst (λ b. RegionsAreNumbered m b (region_ids m)) (sym (c.in_ok-number.ensures.bits m (ready d))) back in
+    subst (λ i. RegionsAreNumbered m bits i) (sym (c.in_ok-number.ensures.ids m (ready d))) by_bits
 
 pub returns-clause-faces : goal.returns-clause-faces
 returns-clause-faces c =

@@ -5,7 +5,7 @@ use Rattle.plane_model.specs.Reading.{edge_row, edge_rows}
 use Rattle.plane_model.specs.InRange.{is_edge_in_range}
 use Rattle.plane_model.proofs.ReadInRange.{rows-read, edge_row-in_range}
 use Rattle.topo_cli.specs.Words.{edge_table}
-use Rattle.topo_cli.specs.Loading.{Ends}
+use Rattle.topo_cli.specs.Loading.{IsMetWhereTold}
 use Rattle.topo_cli.specs.Tables.{table}
 use Rattle.topo_cli.specs.declared.load.LoadFault.{LoadFault}
 use Rattle.topo_cli.proofs.Loads.{err_and, rows_at, refused_at, stopped_at}
@@ -14,14 +14,14 @@ use Rattle.topo_cli.proofs.load.load_edges.Goals as goal
 pub returns-in_err-bytes-clause-ends : goal.returns-in_err-bytes-clause-ends
 returns-in_err-bytes-clause-ends g c =
     let name : string_bytes c.in_ok-name.name ≡ edge_table c.args.dir.now = c.in_ok-name.ensures.ok in
-    let P : LoadFault → Type 0 = Ends (g.H.Shelf.files c.args.shelf.now) (λ files. table edge_rows files (edge_table c.args.dir.now)) in
+    let P : LoadFault → Type 0 = IsMetWhereTold (g.H.Shelf.files c.args.shelf.now) (λ files. table edge_rows files (edge_table c.args.dir.now)) in
     err_and _ _ P c.from_residual-in_err-bytes.ensures.1
     (λ e same. subst P (sym same) (stopped_at edge_rows _ _ _ _ name c.in_err-bytes.ensures.stopped c.in_err-bytes.ensures.named))
 
 pub returns-in_err-read_edges-clause-ends : goal.returns-in_err-read_edges-clause-ends
 returns-in_err-read_edges-clause-ends g c =
     let name : string_bytes c.in_ok-name.name ≡ edge_table c.args.dir.now = c.in_ok-name.ensures.ok in
-    let P : LoadFault → Type 0 = Ends (g.H.Shelf.files c.args.shelf.now) (λ files. table edge_rows files (edge_table c.args.dir.now)) in
+    let P : LoadFault → Type 0 = IsMetWhereTold (g.H.Shelf.files c.args.shelf.now) (λ files. table edge_rows files (edge_table c.args.dir.now)) in
     err_and _ _ P c.from_residual-in_err-read_edges.ensures.1
     (λ e same. refused_at edge_rows _ _ _ _ _ _ e name c.deref.ensures.value c.in_ok-bytes.ensures.whole c.in_ok-bytes.ensures.short c.in_err-read_edges.ensures.refused same)
 

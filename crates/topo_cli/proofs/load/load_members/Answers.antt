@@ -6,7 +6,7 @@ use Rattle.plane_model.specs.InRange.{is_id, is_face_id}
 use Rattle.plane_model.proofs.ReadInRange.{rows-read, member_row-in_range}
 use Rattle.plane_model.specs.declared.rows.MemberRow.{MemberRow}
 use Rattle.topo_cli.specs.Words.{member_table}
-use Rattle.topo_cli.specs.Loading.{Ends}
+use Rattle.topo_cli.specs.Loading.{IsMetWhereTold}
 use Rattle.topo_cli.specs.Tables.{optional_table}
 use Rattle.topo_cli.specs.declared.load.LoadFault.{LoadFault}
 use Rattle.topo_cli.proofs.Loads.{err_and, of_some, optional_none, optional_refused, optional_rows, optional_stopped}
@@ -14,13 +14,13 @@ use Rattle.topo_cli.proofs.load.load_members.Goals as goal
 
 pub returns-in_err-bytes-clause-ends : goal.returns-in_err-bytes-clause-ends
 returns-in_err-bytes-clause-ends g c =
-    let P : LoadFault → Type 0 = Ends (g.H.Shelf.files c.args.shelf.now) (λ files. optional_table member_rows files (member_table c.args.dir.now)) in
+    let P : LoadFault → Type 0 = IsMetWhereTold (g.H.Shelf.files c.args.shelf.now) (λ files. optional_table member_rows files (member_table c.args.dir.now)) in
     err_and _ _ P c.from_residual-in_err-bytes.ensures.1
     (λ e same. subst P (sym same) (optional_stopped member_rows _ _ _ _ c.in_ok-name.ensures.ok c.in_err-bytes.ensures.stopped c.in_err-bytes.ensures.named))
 
 pub returns-in_err-read_members-in-Some-clause-ends : goal.returns-in_err-read_members-in-Some-clause-ends
 returns-in_err-read_members-in-Some-clause-ends g c =
-    let P : LoadFault → Type 0 = Ends (g.H.Shelf.files c.args.shelf.now) (λ files. optional_table member_rows files (member_table c.args.dir.now)) in
+    let P : LoadFault → Type 0 = IsMetWhereTold (g.H.Shelf.files c.args.shelf.now) (λ files. optional_table member_rows files (member_table c.args.dir.now)) in
     let whole = MatchOption-at_some _ _ _ c.in-Some.is c.in_ok-bytes.ensures.whole in
     let short = of_some _ _ _ c.in-Some.is c.in_ok-bytes.ensures.short in
     err_and _ _ P c.from_residual-in_err-read_members-in-Some.ensures.1

@@ -1,7 +1,7 @@
 use Rattle.std.proofs.Common.{◌≡◌, ◌∙◌, sym, subst, Option, IfSome, Ok}
 use Rattle.ports.specs.Outside.{Files}
 use Rattle.plane_model.specs.Reading.{edge_rows, face_rows, member_rows, region_rows}
-use Rattle.topo_cli.specs.Loading.{Ends}
+use Rattle.topo_cli.specs.Loading.{IsMetWhereTold}
 use Rattle.topo_cli.specs.Tables.{loaded, optional_table, table}
 use Rattle.topo_cli.specs.Words.{edge_table, face_table, member_table, region_table}
 use Rattle.topo_cli.specs.declared.load.LoadFault.{LoadFault}
@@ -10,20 +10,20 @@ use Rattle.topo_cli.proofs.load.load_tables.Goals as goal
 
 pub returns-in_err-nodes-clause-ends : goal.returns-in_err-nodes-clause-ends
 returns-in_err-nodes-clause-ends g c =
-    let P : LoadFault → Type 0 = Ends (g.H.Shelf.files c.args.shelf.now) (λ files. loaded files c.args.dir.now) in
+    let P : LoadFault → Type 0 = IsMetWhereTold (g.H.Shelf.files c.args.shelf.now) (λ files. loaded files c.args.dir.now) in
     err_and _ _ P c.from_residual.ensures.1 (λ e same. subst P (sym same) (ends_at_nodes _ _ _ c.in_err-nodes.ensures.ends))
 
 pub returns-in_err-edges-clause-ends : goal.returns-in_err-edges-clause-ends
 returns-in_err-edges-clause-ends g c =
-    let P : LoadFault → Type 0 = Ends (g.H.Shelf.files c.args.shelf.now) (λ files. loaded files c.args.dir.now) in
-    let Q : Option Files → Type 0 = λ o. Ends o (λ files. table edge_rows files (edge_table c.args.dir.now)) c.in_err-edges.field-0.0 in
+    let P : LoadFault → Type 0 = IsMetWhereTold (g.H.Shelf.files c.args.shelf.now) (λ files. loaded files c.args.dir.now) in
+    let Q : Option Files → Type 0 = λ o. IsMetWhereTold o (λ files. table edge_rows files (edge_table c.args.dir.now)) c.in_err-edges.field-0.0 in
     err_and _ _ P c.from_residual-in_err-edges.ensures.1
     (λ e same. subst P (sym same) (ends_at_edges _ _ _ _ c.in_ok-nodes.ensures.rows (subst Q c.in_ok-nodes.ensures.kept c.in_err-edges.ensures.ends)))
 
 pub returns-in_err-faces-clause-ends : goal.returns-in_err-faces-clause-ends
 returns-in_err-faces-clause-ends g c =
-    let P : LoadFault → Type 0 = Ends (g.H.Shelf.files c.args.shelf.now) (λ files. loaded files c.args.dir.now) in
-    let Q : Option Files → Type 0 = λ o. Ends o (λ files. table face_rows files (face_table c.args.dir.now)) c.in_err-faces.field-0.0 in
+    let P : LoadFault → Type 0 = IsMetWhereTold (g.H.Shelf.files c.args.shelf.now) (λ files. loaded files c.args.dir.now) in
+    let Q : Option Files → Type 0 = λ o. IsMetWhereTold o (λ files. table face_rows files (face_table c.args.dir.now)) c.in_err-faces.field-0.0 in
     let R : Option Files → Type 0 = λ o. IfSome o (λ files. table edge_rows files (edge_table c.args.dir.now) ≡ Ok c.in_ok-edges.edges.items) in
     let kept = c.in_ok-edges.ensures.kept ∙ c.in_ok-nodes.ensures.kept in
     err_and _ _ P c.from_residual-in_err-faces.ensures.1
@@ -32,8 +32,8 @@ returns-in_err-faces-clause-ends g c =
 
 pub returns-in_err-regions-clause-ends : goal.returns-in_err-regions-clause-ends
 returns-in_err-regions-clause-ends g c =
-    let P : LoadFault → Type 0 = Ends (g.H.Shelf.files c.args.shelf.now) (λ files. loaded files c.args.dir.now) in
-    let Q : Option Files → Type 0 = λ o. Ends o (λ files. optional_table region_rows files (region_table c.args.dir.now)) c.in_err-regions.field-0.0 in
+    let P : LoadFault → Type 0 = IsMetWhereTold (g.H.Shelf.files c.args.shelf.now) (λ files. loaded files c.args.dir.now) in
+    let Q : Option Files → Type 0 = λ o. IsMetWhereTold o (λ files. optional_table region_rows files (region_table c.args.dir.now)) c.in_err-regions.field-0.0 in
     let R : Option Files → Type 0 = λ o. IfSome o (λ files. table edge_rows files (edge_table c.args.dir.now) ≡ Ok c.in_ok-edges.edges.items) in
     let S : Option Files → Type 0 = λ o. IfSome o (λ files. table face_rows files (face_table c.args.dir.now) ≡ Ok c.in_ok-faces.faces.items) in
     let nodes = c.in_ok-nodes.ensures.kept in
@@ -45,8 +45,8 @@ returns-in_err-regions-clause-ends g c =
 
 pub returns-in_err-members-clause-ends : goal.returns-in_err-members-clause-ends
 returns-in_err-members-clause-ends g c =
-    let P : LoadFault → Type 0 = Ends (g.H.Shelf.files c.args.shelf.now) (λ files. loaded files c.args.dir.now) in
-    let Q : Option Files → Type 0 = λ o. Ends o (λ files. optional_table member_rows files (member_table c.args.dir.now)) c.in_err-members.field-0.0 in
+    let P : LoadFault → Type 0 = IsMetWhereTold (g.H.Shelf.files c.args.shelf.now) (λ files. loaded files c.args.dir.now) in
+    let Q : Option Files → Type 0 = λ o. IsMetWhereTold o (λ files. optional_table member_rows files (member_table c.args.dir.now)) c.in_err-members.field-0.0 in
     let R : Option Files → Type 0 = λ o. IfSome o (λ files. table edge_rows files (edge_table c.args.dir.now) ≡ Ok c.in_ok-edges.edges.items) in
     let S : Option Files → Type 0 = λ o. IfSome o (λ files. table face_rows files (face_table c.args.dir.now) ≡ Ok c.in_ok-faces.faces.items) in
     let T : Option Files → Type 0 = λ o. IfSome o (λ files. optional_table region_rows files (region_table c.args.dir.now) ≡ Ok c.in_ok-regions.regions.items) in

@@ -1,10 +1,10 @@
 use Rattle.std.proofs.Common.{◌≡◌, ◌∙◌, ◌+◌, ◌≤◌, ap, subst, refl, List, ℕ, arith, codes}
 use Rattle.plane_model.specs.PlaneMap.{PlaneMap, map_of}
+use Rattle.ports.specs.Outside.{Holds, HoldsFront}
 use Rattle.file_laws.specs.Lawful.{map_of_file}
 use Rattle.topo_cli.specs.declared.status.Status.TheVariants as status
 use Rattle.topo_cli.specs.Call.{sink_call}
 use Rattle.topo_cli.specs.Ended.{IsTold}
-use Rattle.topo_cli.specs.Files.{Holds, HoldsFront}
 use Rattle.topo_cli.specs.Outcome.{words_to_open}
 use Rattle.topo_cli.specs.Text.{counts_line}
 use Rattle.topo_cli.specs.Words.{Form}

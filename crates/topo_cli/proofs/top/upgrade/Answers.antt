@@ -1,11 +1,12 @@
 use Rattle.std.proofs.Common.{◌∙◌, ap, sym, subst, refl, List, ℕ, arith, codes}
+use Rattle.ports.specs.Outside.{Holds, HoldsFront}
 use Rattle.file_laws.specs.Lawful.{map_of_file}
 use Rattle.file_laws.proofs.Sizes.{lawful_consistent}
 use Rattle.topo_cli.specs.declared.status.Status.TheVariants as status
 use Rattle.topo_cli.specs.declared.load.LoadFault.TheVariants as fault
 use Rattle.topo_cli.specs.Call.{sink_call}
 use Rattle.topo_cli.specs.Ended.{IsTold}
-use Rattle.topo_cli.specs.Files.{Holds, HoldsFront, IsWhole}
+use Rattle.topo_cli.specs.Files.{IsWhole}
 use Rattle.topo_cli.specs.Text.{counts_line}
 use Rattle.topo_cli.specs.Words.{Form}
 use Rattle.topo_cli.proofs.Built.{fits_file, rose_since, upgrade_unwritten, upgraded, written_since}

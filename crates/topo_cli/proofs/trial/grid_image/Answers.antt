@@ -5,7 +5,7 @@ use Rattle.plane_model.specs.InRange.{is_in_range}
 use Rattle.plane_model.specs.Consistent.{is_consistent}
 use Rattle.map_build.specs.BuildFaults.{Names as NamesFault}
 use Rattle.map_maker.specs.Grid.{grid_of}
-use Rattle.topo_cli.specs.Loading.{IsEnding}
+use Rattle.topo_cli.specs.Loading.{IsMet}
 use Rattle.topo_cli.specs.Outcome.{IsImageOf}
 use Rattle.topo_cli.specs.Tables.{checked}
 use Rattle.topo_cli.specs.declared.load.LoadFault.{LoadFault}
@@ -15,7 +15,7 @@ use Rattle.topo_cli.proofs.trial.grid_image.Goals as goal
 pub returns-in_err-build-clause-ends : goal.returns-in_err-build-clause-ends
 returns-in_err-build-clause-ends c =
     let P : Rows → Type 0 = λ t. NamesFault c.in_err-build.field-0.0 (first_fault t) in
-    let E : LoadFault → Type 0 = λ e. IsEnding e (checked (grid_of c.args.size)) in
+    let E : LoadFault → Type 0 = λ e. IsMet e (checked (grid_of c.args.size)) in
     err_and _ _ E c.from_residual.ensures.1 (λ e same. ends_at_grid _ _ e (subst P c.in-Ok.ensures.tables c.in_err-build.ensures.refused) same)
 
 pub returns-clause-built : goal.returns-clause-built

@@ -1,6 +1,6 @@
 use Rattle.parens.specs.ParenView.{parens_of}
 use Rattle.parens.proofs.Balances.{balanced}
-use Rattle.parens.proofs.Rounds.{last-innermost, last-zero, last-is_innermost}
+use Rattle.parens.proofs.Enclosing.{last-innermost, last-zero, last-is_innermost}
 use Rattle.parens.proofs.view.ParenView.enclose.Goals as goal
 
 pub returns-clause-pair : goal.returns-clause-pair

@@ -9,7 +9,7 @@ overflow_add-result g c =
     let v = c.args.self.now in
     let code = code_of_view v in
     let few = few_components code v.sound in
-    let below = pair_below code v.sound true c.args.p c.in-Some.pair c.requires (sym c.in-Some.is ∙ c.pair_round.ensures.pair) in
+    let below = pair_below code v.sound true c.args.p c.in-Some.pair c.requires (sym c.in-Some.is ∙ c.enclosing_pair.ensures.pair) in
     omega (arith, few, v.few, below, c.components.ensures)
 
 pub overflow_cast-result : goal.overflow_cast-result
@@ -17,25 +17,25 @@ overflow_cast-result g c =
     let v = c.args.self.now in
     let code = code_of_view v in
     let few = few_components code v.sound in
-    let below = pair_below code v.sound true c.args.p c.in-Some.pair c.requires (sym c.in-Some.is ∙ c.pair_round.ensures.pair) in
+    let below = pair_below code v.sound true c.args.p c.in-Some.pair c.requires (sym c.in-Some.is ∙ c.enclosing_pair.ensures.pair) in
     omega (arith, few, v.few, below, c.components.ensures)
 
 pub returns-in-Some-clause-node : goal.returns-in-Some-clause-node
 returns-in-Some-clause-node g c =
     let v = c.args.self.now in
-    ap (λ n. n + c.in-Some.pair) c.components.ensures ∙ node_found (code_of_view v) v.sound c.args.p c.in-Some.pair (sym c.in-Some.is ∙ c.pair_round.ensures.pair)
+    ap (λ n. n + c.in-Some.pair) c.components.ensures ∙ node_found (code_of_view v) v.sound c.args.p c.in-Some.pair (sym c.in-Some.is ∙ c.enclosing_pair.ensures.pair)
 
 pub returns-in-Some-clause-within : goal.returns-in-Some-clause-within
 returns-in-Some-clause-within g c =
     let v = c.args.self.now in
-    let is = ap (λ n. n + c.in-Some.pair) c.components.ensures ∙ node_found (code_of_view v) v.sound c.args.p c.in-Some.pair (sym c.in-Some.is ∙ c.pair_round.ensures.pair) in
+    let is = ap (λ n. n + c.in-Some.pair) c.components.ensures ∙ node_found (code_of_view v) v.sound c.args.p c.in-Some.pair (sym c.in-Some.is ∙ c.enclosing_pair.ensures.pair) in
     let below = node_below (code_of_view v) v.sound c.args.p c.requires in
     subst (λ n. n < node_count (code_of_view v)) (sym is) below
 
 pub returns-in-None-clause-node : goal.returns-in-None-clause-node
 returns-in-None-clause-node g c =
     let v = c.args.self.now in
-    c.component_of.ensures.component ∙ root_found (code_of_view v) v.sound c.args.p (sym c.in-None.is ∙ c.pair_round.ensures.pair)
+    c.component_of.ensures.component ∙ root_found (code_of_view v) v.sound c.args.p (sym c.in-None.is ∙ c.enclosing_pair.ensures.pair)
 
 pub returns-in-None-clause-within : goal.returns-in-None-clause-within
 returns-in-None-clause-within g c = omega (arith, c.component_of.ensures.within)

@@ -10,23 +10,23 @@ use Rattle.turan_code.proofs.view.TuranView.ring_of.Goals as goal
 pub overflow_cast-result : goal.overflow_cast-result
 overflow_cast-result g c =
     let v = c.args.self.now in
-    let below = pair_below (code_of_view v) v.sound false c.args.p c.in-Some.pair c.requires (sym c.in-Some.is ∙ c.pair_round.ensures.pair) in
+    let below = pair_below (code_of_view v) v.sound false c.args.p c.in-Some.pair c.requires (sym c.in-Some.is ∙ c.enclosing_pair.ensures.pair) in
     omega (arith, v.few, below)
 
 pub returns-in-Some-clause-ring : goal.returns-in-Some-clause-ring
 returns-in-Some-clause-ring g c =
     let v = c.args.self.now in
-    shell_found (code_of_view v) v.sound c.args.p c.in-Some.pair (sym c.in-Some.is ∙ c.pair_round.ensures.pair)
+    shell_found (code_of_view v) v.sound c.args.p c.in-Some.pair (sym c.in-Some.is ∙ c.enclosing_pair.ensures.pair)
 
 pub returns-in-None-clause-ring : goal.returns-in-None-clause-ring
 returns-in-None-clause-ring g c =
     let v = c.args.self.now in
-    ap Outer c.component_of.ensures.component ∙ outer_found (code_of_view v) v.sound c.args.p (sym c.in-None.is ∙ c.pair_round.ensures.pair)
+    ap Outer c.component_of.ensures.component ∙ outer_found (code_of_view v) v.sound c.args.p (sym c.in-None.is ∙ c.enclosing_pair.ensures.pair)
 
 pub returns-in-Some-clause-within : goal.returns-in-Some-clause-within
 returns-in-Some-clause-within g c =
     let v = c.args.self.now in
-    lt-ltb c.in-Some.pair (shell_count (code_of_view v)) (shell_below (code_of_view v) v.sound c.args.p c.in-Some.pair c.requires (sym c.in-Some.is ∙ c.pair_round.ensures.pair))
+    lt-ltb c.in-Some.pair (shell_count (code_of_view v)) (shell_below (code_of_view v) v.sound c.args.p c.in-Some.pair c.requires (sym c.in-Some.is ∙ c.enclosing_pair.ensures.pair))
 
 pub returns-in-None-clause-within : goal.returns-in-None-clause-within
 returns-in-None-clause-within g c = lt-ltb c.component_of.result (component_count (code_of_view c.args.self.now)) c.component_of.ensures.within

@@ -2,7 +2,7 @@ use Rattle.std.proofs.Common.{◌-◌, arith, sym, ◌∙◌}
 use Rattle.pemb_file.specs.Served.{contents_of_view}
 use Rattle.navigate.proofs.Facts.{w}
 use Rattle.table_dump.proofs.AtRanks.{joined_is, face_none, face_some}
-use Rattle.table_dump.proofs.rows.face_round.Goals as goal
+use Rattle.table_dump.proofs.rows.enclosing_face.Goals as goal
 
 pub overflow_sub-joined : goal.overflow_sub-joined
 overflow_sub-joined g c =

@@ -3,7 +3,7 @@ use Rattle.bit_words.specs.Bits.{rank}
 use Rattle.parens.specs.Matching.{innermost}
 use Rattle.turan_code.specs.TuranView.{code_of_view}
 use Rattle.turan_code.proofs.Views.{round_found, round_none}
-use Rattle.turan_code.proofs.view.TuranView.pair_round.Goals as goal
+use Rattle.turan_code.proofs.view.TuranView.enclosing_pair.Goals as goal
 
 pub returns-in-Some-clause-pair : goal.returns-in-Some-clause-pair
 returns-in-Some-clause-pair g c =

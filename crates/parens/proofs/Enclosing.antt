@@ -7,7 +7,7 @@ use Rattle.std.proofs.lemmas.Int.{ints}
 use Rattle.bit_words.specs.Bits.{excess, IsLast}
 use Rattle.min_max_tree.proofs.Falls.{excess-step}
 use Rattle.parens.proofs.Balances.{IsBalanced}
-use Rattle.parens.specs.Matching.{is_open, close_of, is_from, is_round, falling, innermost, mate_of}
+use Rattle.parens.specs.Matching.{is_open, close_of, is_from, is_enclosing, falling, innermost, mate_of}
 use Rattle.parens.specs.Pairs.{IsInnermost}
 use Rattle.parens.proofs.Arcs.{IsArc, arc-close, some_close, open_where_up, arc_from, mate-opens, arc-nests, above_last, never_less}
 use Rattle.parens.proofs.Greatest.{falling_skip, falling_same, find-greatest, find-no_falling}
@@ -20,7 +20,7 @@ from_some : (gap : ℕ) (o : Option ℕ) → is_from gap o ≡ true → (j : ℕ
 from_some gap None h = cc
 from_some gap (Some j) h = (j, refl, leb-true gap j h)
 
-pub round-above : (bits : List Bool) (gap i : ℕ) → i < length bits → is_round bits gap i ≡ true → IsAbove bits gap i
+pub round-above : (bits : List Bool) (gap i : ℕ) → i < length bits → is_enclosing bits gap i ≡ true → IsAbove bits gap i
 round-above bits gap i l h =
     let parts = and_parts (is_open bits i) (is_from gap (close_of bits i)) h in
     let s = from_some gap (close_of bits i) parts.1 in
@@ -31,7 +31,7 @@ from_close : (gap : ℕ) (o : Option ℕ) → o ≢ None → ((j : ℕ) → o �
 from_close gap None some h = absurd (some refl)
 from_close gap (Some j) some h = le-leb gap j (h j refl)
 
-pub above-round : (bits : List Bool) (gap i : ℕ) → IsBalanced bits → i < gap → gap ≤ length bits → IsAbove bits gap i → is_round bits gap i ≡ true
+pub above-round : (bits : List Bool) (gap i : ℕ) → IsBalanced bits → i < gap → gap ≤ length bits → IsAbove bits gap i → is_enclosing bits gap i ≡ true
 above-round bits gap i b order within a =
     let opens = open_where_up bits i (omega arith) (a.above (i + 1) (omega arith) (omega arith)) in
     and_from _ _ opens (from_close gap (close_of bits i) (some_close bits i b opens)
@@ -43,7 +43,7 @@ above-round bits gap i b order within a =
 
 module _ (bits : List Bool) (i j : ℕ) (b : IsBalanced bits) (arc : IsArc bits i j) where
   -- a pair is round the gap before an arc exactly where it is round the gap after it
-  round_past : (x : ℕ) → x < i → is_round bits i x ≡ is_round bits (j + 1) x
+  round_past : (x : ℕ) → x < i → is_enclosing bits i x ≡ is_enclosing bits (j + 1) x
   round_past x l =
       tests_agree _ _
       (λ h. let a = round-above bits i x (omega (arith, arc.order, arc.within)) h in
@@ -62,7 +62,7 @@ module _ (bits : List Bool) (i j : ℕ) (b : IsBalanced bits) (arc : IsArc bits 
       above-round bits i x b l (omega (arith, arc.order, arc.within)) (record { above = λ q m n. a.above q m (omega (arith, arc.order)) }))
 
   -- no place of an arc is round the gap after it
-  not_round_past : (x : ℕ) → i ≤ x → x < j + 1 → is_round bits (j + 1) x ≡ false
+  not_round_past : (x : ℕ) → i ≤ x → x < j + 1 → is_enclosing bits (j + 1) x ≡ false
   not_round_past x l h =
       false_from_ne_true _ (λ r.
       let a = round-above bits (j + 1) x (omega (arith, arc.within)) r in
@@ -79,27 +79,27 @@ module _ (bits : List Bool) (i j : ℕ) (b : IsBalanced bits) (arc : IsArc bits 
   innermost-past =
       let k = j + 1 - i in
       let e : i + k ≡ j + 1 = omega (arith, arc.order) in
-      let s : find (is_round bits (j + 1)) (falling (i + k)) ≡ find (is_round bits (j + 1)) (falling i) = falling_skip (is_round bits (j + 1)) i k (λ q l h. not_round_past q l (omega arith)) in
-      subst (λ n. find (is_round bits (j + 1)) (falling n) ≡ find (is_round bits (j + 1)) (falling i)) e s ∙ sym (falling_same (is_round bits i) (is_round bits (j + 1)) i round_past)
+      let s : find (is_enclosing bits (j + 1)) (falling (i + k)) ≡ find (is_enclosing bits (j + 1)) (falling i) = falling_skip (is_enclosing bits (j + 1)) i k (λ q l h. not_round_past q l (omega arith)) in
+      subst (λ n. find (is_enclosing bits (j + 1)) (falling n) ≡ find (is_enclosing bits (j + 1)) (falling i)) e s ∙ sym (falling_same (is_enclosing bits i) (is_enclosing bits (j + 1)) i round_past)
 
   -- an arc is round each gap inside it
-  pub round_inside : (gap : ℕ) → i < gap → gap ≤ j → is_round bits gap i ≡ true
+  pub round_inside : (gap : ℕ) → i < gap → gap ≤ j → is_enclosing bits gap i ≡ true
   round_inside gap l h = above-round bits gap i b l (omega (arith, arc.within)) (record { above = λ q m n. arc.above q m (omega arith) })
 
   -- and no gap up to it or after it
-  pub not_round_after : (gap : ℕ) → j < gap → gap ≤ length bits → is_round bits gap i ≡ false
+  pub not_round_after : (gap : ℕ) → j < gap → gap ≤ length bits → is_enclosing bits gap i ≡ false
   not_round_after gap l h =
       false_from_ne_true _ (λ r. let a = round-above bits gap i (omega (arith, arc.order, arc.within)) r in let v = a.above (j + 1) (omega (arith, arc.order)) (omega arith) in let w = arc.level in omega (arith, ints, v, w))
 
   -- the innermost pair round the first gap of an arc, and round the last one, is the arc
-  innermost_at : (gap : ℕ) → i < gap → gap ≤ j → ((x : ℕ) → i + 1 ≤ x → x < gap → is_round bits gap x ≡ false) → innermost bits gap ≡ Some i
+  innermost_at : (gap : ℕ) → i < gap → gap ≤ j → ((x : ℕ) → i + 1 ≤ x → x < gap → is_enclosing bits gap x ≡ false) → innermost bits gap ≡ Some i
   unfolding innermost falling
   innermost_at gap l h none =
       let k = gap - (i + 1) in
       let e : suc i + k ≡ gap = omega arith in
-      let s : find (is_round bits gap) (falling (suc i + k)) ≡ find (is_round bits gap) (falling (suc i)) = falling_skip (is_round bits gap) (suc i) k (λ q m n. none q (omega arith) (omega arith)) in
-      let t : find (is_round bits gap) (falling (suc i)) ≡ Some i = rw (round_inside gap l h) refl in
-      subst (λ n. find (is_round bits gap) (falling n) ≡ Some i) e (s ∙ t)
+      let s : find (is_enclosing bits gap) (falling (suc i + k)) ≡ find (is_enclosing bits gap) (falling (suc i)) = falling_skip (is_enclosing bits gap) (suc i) k (λ q m n. none q (omega arith) (omega arith)) in
+      let t : find (is_enclosing bits gap) (falling (suc i)) ≡ Some i = rw (round_inside gap l h) refl in
+      subst (λ n. find (is_enclosing bits gap) (falling n) ≡ Some i) e (s ∙ t)
 
   pub innermost-first : innermost bits (i + 1) ≡ Some i
   innermost-first = innermost_at (i + 1) (omega arith) (omega (arith, arc.order)) (λ x l h. absurd (omega arith))
@@ -120,7 +120,7 @@ module _ (bits : List Bool) (gap : ℕ) (b : IsBalanced bits) (within : gap ≤ 
   innermost-last : (p : ℕ) → p < gap → excess bits p ≡ excess bits gap -ℤ pos 1 → ((q : ℕ) → p < q → q < gap → excess bits q ≢ excess bits gap -ℤ pos 1) → innermost bits gap ≡ Some p
   unfolding innermost
   innermost-last p l e never =
-      find-greatest (is_round bits gap) gap p l
+      find-greatest (is_enclosing bits gap) gap p l
       (above-round bits gap p b l within (record { above = λ q x y. above_last bits p gap q within e never x y }))
       (λ q x y. false_from_ne_true _ (λ r.
       let u = (round-above bits gap q (omega arith) r).above gap y (omega arith) in
@@ -130,7 +130,7 @@ module _ (bits : List Bool) (gap : ℕ) (b : IsBalanced bits) (within : gap ≤ 
   innermost-zero : excess bits gap ≡ pos 0 → innermost bits gap ≡ None
   unfolding innermost
   innermost-zero e =
-      find-no_falling (is_round bits gap) gap (λ q h. false_from_ne_true _ (λ r.
+      find-no_falling (is_enclosing bits gap) gap (λ q h. false_from_ne_true _ (λ r.
       let u = (round-above bits gap q (omega arith) r).above gap h (omega arith) in
       let v = b.low q (omega arith) in
       omega (arith, ints, u, v, e)))

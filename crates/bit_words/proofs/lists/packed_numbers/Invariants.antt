@@ -1,5 +1,5 @@
 use Rattle.std.proofs.Common.{◌≡◌, take}
-use Rattle.bit_words.proofs.lists.all_numbers.Given as goal
+use Rattle.bit_words.proofs.lists.packed_numbers.Given as goal
 
 abbrev pub invariant-loop-number : goal.invariant-loop-number
 invariant-loop-number l = l.maker ≡ record { width = 32; items = take l.number-index l.numbers }

@@ -2,15 +2,15 @@
 use Rattle.std.specs.Prelude.{ℕ, ◌≡◌, Bool, true, List, [], ◌∷◌, ◌++◌, map, filter, Option, Some, None}
 use Rattle.std.specs.List.{range_with_len}
 use Rattle.bit_words.specs.Bits.{rank}
-use Rattle.parens.specs.Matching.{is_round}
+use Rattle.parens.specs.Matching.{is_enclosing}
 
 -- the opening places of the pairs round a gap, the outermost first
-abbrev pub rounds : List Bool → ℕ → List ℕ
-rounds bits gap = filter (is_round bits gap) (range_with_len 0 gap)
+abbrev pub enclosing_places : List Bool → ℕ → List ℕ
+enclosing_places bits gap = filter (is_enclosing bits gap) (range_with_len 0 gap)
 
 -- their numbers
-unfoldable pub round_numbers : List Bool → ℕ → List ℕ
-round_numbers bits gap = map (rank true bits) (rounds bits gap)
+unfoldable pub enclosing_numbers : List Bool → ℕ → List ℕ
+enclosing_numbers bits gap = map (rank true bits) (enclosing_places bits gap)
 
 -- none where the list has none, and else its last number
 abbrev pub IsLastOf : List ℕ → Option ℕ → Type 0
