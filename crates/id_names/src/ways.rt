@@ -115,8 +115,8 @@ fn on_cycles<C: Ledger>(inverse: Inverse<'_>, steps: &mut Steps<C>) -> Option<us
     Some(count)
 }
 
-/// Whether the counts show that the walk from the place of each number comes to it. They are meant to for all that `make`
-/// makes, which no contract says: where they don't, the walks themselves decide.
+/// Whether the counts show that the walk from the place of each number comes to it. They are meant to for all that
+/// `make` makes, which no contract says: where they don't, the walks themselves decide.
 pub(crate) fn all_found<C: Ledger>(inverse: Inverse<'_>, steps: &mut Steps<C>) -> bool
     ensures all { result ≡ true → first_failing (is_ordered (fields_of inverse.entry.places) (number_in inverse.entry)) (length (fields_of inverse.entry.places)) ≡ None }
     ensures grows { steps.old ≤ steps.new }
