@@ -3,9 +3,7 @@ use Rattle.std.proofs.Common.{◌≡◌, ℕ, zero, suc, ◌+◌, ◌<◌, ◌�
 use Rattle.std.specs.Prelude.{find}
 use Rattle.std.specs.List.{range_with_len}
 use Rattle.std.proofs.lemmas.Bool.{cases_Bool, cases_lt}
-
-same_some : (x y : ℕ) → Some x ≡ Some y → x ≡ y
-same_some x y e = cc
+use Rattle.std.proofs.lemmas.Option.{same_Some}
 
 -- the least number of a range that passes a test
 pub record IsLeast (p : ℕ → Bool) (low high j : ℕ) : Type 0 where
@@ -33,7 +31,7 @@ least-find p low zero j h = cc
 least-find p low (suc n) j h =
     elim (cases_Bool (p low)) [
       | inl w ↦
-          let e : low ≡ j = same_some low j (rw w at h) in
+          let e : low ≡ j = same_Some low j (rw w at h) in
           record { from = omega (arith, e); within = omega (arith, e); passes = subst (λ x. p x ≡ true) e w; before = λ q above below. absurd (omega (arith, e)) }
       | inr f ↦
           let more = least-find p (low + 1) n j (rw f at h) in

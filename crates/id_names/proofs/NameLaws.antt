@@ -7,6 +7,7 @@ use Rattle.std.proofs.lemmas.List.{get_or_default}
 use Rattle.std.proofs.lemmas.Map.Keys.{IsDistinct-from_apart, IsDistinct-cons}
 use Rattle.std.proofs.lemmas.Map.Steps.{length-le_from_distinct_below}
 use Rattle.std.proofs.lemmas.Map.Views.{Contains-from_any}
+use Rattle.std.proofs.lemmas.Option.{same_Some}
 use Rattle.bit_words.specs.Lists.{first_some}
 use Rattle.bit_words.proofs.BitLists.{length-tabulate, get_or-tabulate}
 use Rattle.id_names.specs.Names.{AreDistinctIds}
@@ -51,9 +52,6 @@ no_fault_parts p high_counts mark_counts e =
       order = map_none Order _ g.0;
     }
 
-same_some : (j k : ℕ) → Some j ≡ Some k → j ≡ k
-same_some j k e = cc
-
 none_is : (q : ℕ) (xs : List ℕ) → list_any (eqb q) xs ≡ false → AllByRecursion (λ y. eqb q y ≡ false) xs
 none_is q [] e = tt
 none_is q (x ∷ xs) e = let p = or_parts (eqb q x) (list_any (eqb q) xs) e in (p.0, none_is q xs p.1)
@@ -94,7 +92,7 @@ module _ (p : RisingNames) (high_counts mark_counts : List ℕ) (right : name_fa
 
   -- two numbers whose places are the same are one
   pub one_number : (j k : ℕ) → j < count p → k < count p → get_or p.places j 0 ≡ get_or p.places k 0 → j ≡ k
-  one_number j k h l e = same_some j k (sym (ordered j h).found ∙ ap (number_at p) e ∙ (ordered k l).found)
+  one_number j k h l e = same_Some j k (sym (ordered j h).found ∙ ap (number_at p) e ∙ (ordered k l).found)
 
   differ : (i j d : ℕ) → i < j → j < length p.places → eqb (get_or p.places i d) (get_or p.places j d) ≡ false
   differ i j d l h = ne_eqb _ _ (λ e.
