@@ -1,9 +1,10 @@
--- laws of `find` over a range of numbers
-use Rattle.std.proofs.Common.{◌≡◌, ℕ, zero, suc, ◌+◌, ◌<◌, ◌≤◌, inl, inr, Bool, true, false, refl, sym, ap, subst, arith, Option, Some, None}
+-- laws of `find` over a range of numbers, and of the first of some options
+use Rattle.std.proofs.Common.{◌≡◌, ℕ, zero, suc, ◌+◌, ◌<◌, ◌≤◌, inl, inr, Bool, true, false, List, ◌∷◌, refl, sym, ap, subst, arith, Option, Some, None}
 use Rattle.std.specs.Prelude.{find}
 use Rattle.std.specs.List.{range_with_len}
 use Rattle.std.proofs.lemmas.Bool.{cases_Bool, cases_lt}
 use Rattle.std.proofs.lemmas.Option.{same_Some}
+use Rattle.bit_words.specs.Lists.{first_some}
 
 -- the least number of a range that passes a test
 pub record IsLeast (p : ℕ → Bool) (low high j : ℕ) : Type 0 where
@@ -53,3 +54,9 @@ none-find p low (suc n) h q above below =
         | inr g ↦ let e : q ≡ low = omega arith in rw e f
       ]
     ]
+
+-- none of some options is none of each
+pub first_none : {X : Type 0} (o : Option X) (os : List (Option X)) → first_some (o ∷ os) ≡ None → (o ≡ None) × (first_some os ≡ None)
+unfolding first_some
+first_none None os h = (refl, h)
+first_none (Some x) os h = cc

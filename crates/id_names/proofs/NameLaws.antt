@@ -8,8 +8,8 @@ use Rattle.std.proofs.lemmas.Map.Keys.{IsDistinct-from_apart, IsDistinct-cons}
 use Rattle.std.proofs.lemmas.Map.Steps.{length-le_from_distinct_below}
 use Rattle.std.proofs.lemmas.Map.Views.{Contains-from_any}
 use Rattle.std.proofs.lemmas.Option.{same_Some}
-use Rattle.bit_words.specs.Lists.{first_some}
 use Rattle.bit_words.proofs.BitLists.{length-tabulate, get_or-tabulate}
+use Rattle.bit_words.proofs.Finds.{first_none}
 use Rattle.id_names.specs.Names.{AreDistinctIds}
 use Rattle.id_names.specs.RisingNames.{RisingNames, count, id_bound, id_at, number_at, ids_by_number}
 use Rattle.id_names.specs.Faults.{wrong_count, other_ones, is_rising, is_ordered, first_failing, name_fault}
@@ -24,11 +24,6 @@ pub record HasNoFault (p : RisingNames) (high_counts mark_counts : List ℕ) : T
   pub mark_counts_right : wrong_count p.marks mark_counts ≡ None
   pub mark_ones : other_ones p.marks (length p.back) ≡ None
   pub order : first_failing (is_ordered p.places (number_at p)) (count p) ≡ None
-
-first_none : {X : Type 0} (o : Option X) (os : List (Option X)) → first_some (o ∷ os) ≡ None → (o ≡ None) × (first_some os ≡ None)
-unfolding first_some
-first_none None os e = (refl, e)
-first_none (Some x) os e = cc
 
 map_none : {X Y : Type 0} (f : X → Y) (o : Option X) → option_map f o ≡ None → o ≡ None
 map_none f None e = refl
