@@ -1,11 +1,10 @@
--- laws of `find` over a range of numbers
-use Rattle.std.proofs.Common.{◌≡◌, ℕ, zero, suc, ◌+◌, ◌<◌, ◌≤◌, inl, inr, Bool, true, false, refl, sym, ap, subst, arith, Option, Some, None}
+-- laws of `find` over a range of numbers, and of the first of some options
+use Rattle.std.proofs.Common.{◌≡◌, ℕ, zero, suc, ◌+◌, ◌<◌, ◌≤◌, inl, inr, Bool, true, false, List, ◌∷◌, refl, sym, ap, subst, arith, Option, Some, None}
 use Rattle.std.specs.Prelude.{find}
 use Rattle.std.specs.List.{range_with_len}
 use Rattle.std.proofs.lemmas.Bool.{cases_Bool, cases_lt}
-
-same_some : (x y : ℕ) → Some x ≡ Some y → x ≡ y
-same_some x y e = cc
+use Rattle.std.proofs.lemmas.Option.{same_Some}
+use Rattle.bit_words.specs.Lists.{first_some}
 
 -- the least number of a range that passes a test
 pub record IsLeast (p : ℕ → Bool) (low high j : ℕ) : Type 0 where
@@ -33,7 +32,7 @@ least-find p low zero j h = cc
 least-find p low (suc n) j h =
     elim (cases_Bool (p low)) [
       | inl w ↦
-          let e : low ≡ j = same_some low j (rw w at h) in
+          let e : low ≡ j = same_Some low j (rw w at h) in
           record { from = omega (arith, e); within = omega (arith, e); passes = subst (λ x. p x ≡ true) e w; before = λ q above below. absurd (omega (arith, e)) }
       | inr f ↦
           let more = least-find p (low + 1) n j (rw f at h) in
@@ -55,3 +54,9 @@ none-find p low (suc n) h q above below =
         | inr g ↦ let e : q ≡ low = omega arith in rw e f
       ]
     ]
+
+-- none of some options is none of each
+pub first_none : {X : Type 0} (o : Option X) (os : List (Option X)) → first_some (o ∷ os) ≡ None → (o ≡ None) × (first_some os ≡ None)
+unfolding first_some
+first_none None os h = (refl, h)
+first_none (Some x) os h = cc

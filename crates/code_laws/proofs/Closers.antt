@@ -2,7 +2,7 @@
 use Rattle.std.specs.Prelude.{pos, ◌+ℤ◌, ◌<ℤ◌, ◌≤ℤ◌, find, nat_le}
 use Rattle.std.proofs.Common.{◌≡◌, ℕ, ◌+◌, ◌<◌, ◌≤◌, inl, inr, Bool, true, false, ◌&&◌, List, length, refl, ap, sym, arith, subst, Option, Some, None}
 use Rattle.std.specs.List.{range_with_len}
-use Rattle.std.proofs.lemmas.Bool.{cases_lt, and_parts, and_from, eqb-true, eq-eqb, leb-true, leb-false, both_ways}
+use Rattle.std.proofs.lemmas.Bool.{cases_lt, and_parts, and_from, eq-eqb, leb-true, leb-false, both_ways}
 use Rattle.std.proofs.lemmas.Int.{ints}
 use Rattle.bit_words.specs.Lists.{is_at}
 use Rattle.bit_words.specs.Bits.{rank, excess}
@@ -11,7 +11,7 @@ use Rattle.bit_words.proofs.Finds.{least-find, none-find}
 use Rattle.min_max_tree.proofs.Falls.{excess-step-up}
 use Rattle.parens.proofs.Balances.{IsBalanced}
 use Rattle.parens.specs.Matching.{is_open, close_of, open_of, falling}
-use Rattle.parens.proofs.Arcs.{IsArc, arc-close, close-arc, open_where_up, excess-zero}
+use Rattle.parens.proofs.Arcs.{IsArc, arc-close, close-arc, open_where_up, excess-zero, at_some}
 use Rattle.parens.proofs.Greatest.{IsGreatest, greatest-find, no_falling-find}
 
 -- the excess before i is at most that after j
@@ -25,10 +25,6 @@ no_more-true bits j i h = omega (arith, ints, leb-true _ _ h)
 no_more-false : (bits : List Bool) (j i : ℕ) → no_more bits j i ≡ false → excess bits (j + 1) <ℤ excess bits i
 unfolding excess no_more
 no_more-false bits j i h = omega (arith, ints, leb-false _ _ h)
-
-is_at-some : (o : Option ℕ) (j : ℕ) → is_at o j ≡ true → o ≡ Some j
-is_at-some None j h = cc
-is_at-some (Some i) j h = ap Some (eqb-true i j h)
 
 module _ (bits : List Bool) (b : IsBalanced bits) (j : ℕ) (within : j < length bits) (closes : is_open bits j ≡ false) where
   fell : excess bits (j + 1) +ℤ pos 1 ≡ excess bits j
@@ -75,4 +71,4 @@ module _ (bits : List Bool) (b : IsBalanced bits) (j : ℕ) (within : j < length
       at (Some i) e =
           let l = least-find (λ i. is_open bits i && is_at (close_of bits i) j) 0 j i e in
           let parts = and_parts (is_open bits i) (is_at (close_of bits i) j) l.passes in
-          (i, e, arc-close bits i j parts.0 (omega (arith, l.within, within)) (is_at-some _ j parts.1))
+          (i, e, arc-close bits i j parts.0 (omega (arith, l.within, within)) (at_some _ j parts.1))

@@ -1,6 +1,7 @@
 -- The first positions of nodes and of shells.
 use Rattle.std.proofs.Common.{◌≡◌, ◌≢◌, ℕ, ◌+◌, ◌*◌, ◌/◌, ◌<◌, ◌≤◌, inl, inr, Bool, true, false, length, refl, ap, sym, ◌∙◌, arith, subst, Option, Some, None, ◌==◌}
 use Rattle.std.proofs.lemmas.Bool.{cases_Bool, both_ways, eqb-true, eq-eqb, ne_eqb, false_from_ne_true}
+use Rattle.std.proofs.lemmas.Option.{same_Some}
 use Rattle.bit_words.specs.Bits.{rank}
 use Rattle.bit_words.proofs.Finds.{find-least}
 use Rattle.parens.specs.Matching.{is_open}
@@ -21,9 +22,6 @@ node_at c p o e = ap (node_or_root c p) e
 ring_at : (c : Code) (p : ℕ) (o : Option ℕ) → enclosing_pair c false p ≡ o → ring_of c p ≡ shell_or_outer c p o
 unfolding ring_of
 ring_at c p o e = ap (shell_or_outer c p) e
-
-some_same : (x y : ℕ) → Some x ≡ Some y → x ≡ y
-some_same x y e = cc
 
 module _ (c : Code) (s : SoundParts c) where
   no_root : (q j : ℕ) → j < component_count c → q < start_of c j → q < length c.a → (o : Option ℕ) → enclosing_pair c true q ≡ o → node_of c q ≢ j
@@ -70,7 +68,7 @@ module _ (c : Code) (s : SoundParts c) where
   first_is e p l h =
       let t = edge_there c s e l in
       let f : first_of_edge c e ≡ Some t.0 = subst (λ x. first_of_edge c x ≡ Some t.0) t.3 (first_edge c s t.0 t.1 t.2) in
-      let same : t.0 ≡ p = some_same t.0 p (sym f ∙ h) in
+      let same : t.0 ≡ p = same_Some t.0 p (sym f ∙ h) in
       subst (λ x. (x < length c.a) × (is_first c x ≡ true) × (edge_of c x ≡ e)) same (t.1, t.2, t.3)
 
   not_node : (q e : ℕ) → q < length c.a → enclosing_pair c true q ≢ Some e → (o : Option ℕ) → enclosing_pair c true q ≡ o → node_of c q ≢ component_count c + e

@@ -2,10 +2,11 @@
 use Rattle.std.specs.Prelude.{option_map, filter, Contains, ◌++◌}
 use Rattle.std.specs.List.{range_with_len}
 use Rattle.std.proofs.Common.{◌≡◌, ℕ, zero, suc, ◌+◌, ◌-◌, ◌<◌, ◌≤◌, inl, inr, Bool, true, false, List, [], ◌∷◌, length, refl, ap, sym, ◌∙◌, arith, subst, Option, Some, None}
-use Rattle.std.proofs.lemmas.Bool.{cases_lt, cases_Bool, cases_order, and_parts, both_ways, leb-true}
+use Rattle.std.proofs.lemmas.Bool.{cases_lt, cases_Bool, cases_order, and_parts, both_ways}
 use Rattle.bit_words.specs.Bits.{rank}
 use Rattle.rank_select.proofs.Selects.{select-placed}
 use Rattle.parens.specs.Matching.{is_open, close_of, is_from, is_enclosing, innermost}
+use Rattle.parens.proofs.Enclosing.{from_some}
 use Rattle.parens.proofs.Arcs.{IsArc, arc-close, close-arc, arc-opens, arc-closes}
 use Rattle.code_laws.specs.Code.{Code, is_tree, parens, place, mate, component_of, end_of}
 use Rattle.code_laws.specs.Numbers.{node_of, ring_of, node_or_root, shell_or_outer, enclosing_pair}
@@ -20,10 +21,6 @@ use Rattle.code_laws.proofs.Mates.{one_place}
 use Rattle.code_laws.proofs.Edges.{place_in}
 use Rattle.code_laws.proofs.Beside.{AreBeside, beside-from, beside-to}
 use Rattle.code_laws.proofs.Turned.{orbit_on}
-
-from_some : (gap : ℕ) (o : Option ℕ) → is_from gap o ≡ true → (j : ℕ) × (o ≡ Some j) × (gap ≤ j)
-from_some gap None h = cc
-from_some gap (Some j) h = (j, refl, leb-true gap j h)
 
 -- the opening position of the pair round a gap
 pub record IsRoundAt (c : Code) (kind : Bool) (p x o : ℕ) : Type 0 where

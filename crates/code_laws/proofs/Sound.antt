@@ -5,11 +5,10 @@ use Rattle.std.specs.List.{range_with_len}
 use Rattle.std.proofs.lemmas.Bool.{cases_lt, cases_Bool, and_parts, eqb-true, eq-eqb, ne_eqb, ltb-true, ltb-false, le-leb, lt-leb, not-false}
 use Rattle.std.proofs.lemmas.Int.{ints}
 use Rattle.bit_words.specs.Bits.{rank, excess}
-use Rattle.bit_words.specs.Lists.{first_some}
 use Rattle.bit_words.proofs.Ranks.{rank-zero, rank_both}
-use Rattle.bit_words.proofs.Finds.{none-find}
-use Rattle.parens.proofs.Balances.{IsBalanced}
-use Rattle.parens.specs.Matching.{is_open, close_of, open_of, mate_of, closes_more, or_end, balance_fault}
+use Rattle.bit_words.proofs.Finds.{none-find, first_none}
+use Rattle.parens.proofs.Balances.{IsBalanced, end-parts}
+use Rattle.parens.specs.Matching.{is_open, close_of, open_of, mate_of, closes_more, balance_fault}
 use Rattle.parens.proofs.Arcs.{arc-close, some_close, excess-zero}
 use Rattle.code_laws.specs.Code.{Code, is_tree, parens, place, component_of, component_count, start_of, end_of}
 use Rattle.code_laws.specs.SeqFault.{is_start, starts_fault, is_balanced_in, balance_fault_of, ones_fault, seq_fault, is_sound}
@@ -19,12 +18,6 @@ use Rattle.code_laws.proofs.Places.{mate_placed, place_before, place_next, place
 use Rattle.code_laws.proofs.Closers.{some_open}
 use Rattle.code_laws.proofs.Steps.{IsIn, HasMate, Opens, Closes, IsWell, numbers_are_orbits}
 
--- no fault at all is none of each
-first_none : {X : Type 0} (o : Option X) (os : List (Option X)) → first_some (o ∷ os) ≡ None → (o ≡ None) × (first_some os ≡ None)
-unfolding first_some
-first_none None os h = (refl, h)
-first_none (Some x) os h = cc
-
 map_none : {X Y : Type 0} (f : X → Y) (o : Option X) → option_map f o ≡ None → o ≡ None
 map_none f None h = refl
 map_none f (Some x) h = cc
@@ -32,11 +25,6 @@ map_none f (Some x) h = cc
 none-is_none : {X : Type 0} (o : Option X) → is_none o ≡ true → o ≡ None
 none-is_none None h = refl
 none-is_none (Some x) h = cc
-
-end-parts : (o : Option ℕ) (even : Bool) (to : ℕ) → or_end o even to ≡ None → (o ≡ None) × (even ≡ true)
-end-parts None true to h = (refl, refl)
-end-parts None false to h = cc
-end-parts (Some p) even to h = cc
 
 -- the starts rise from 0 to the number of positions, and there is a parenthesis for each position
 pub record IsLaidOut (c : Code) : Type 0 where

@@ -2,6 +2,7 @@
 use Rattle.std.specs.Prelude.{ℤ, pos, neg_ℤ, not, map, flat_map, unwrap_or, slice_index}
 use Rattle.std.proofs.Common.{◌≡◌, ℕ, ◌+◌, zero, suc, ◌*◌, ◌<◌, ◌⊎◌, inl, inr, Bool, true, false, ◌||◌, List, [], ◌∷◌, ◌++◌, length, get_or, refl, ap, sym, ◌∙◌, arith, subst, Some, ◌==◌, IsTrue}
 use Rattle.std.proofs.lemmas.Bool.{cases_Bool, and_parts, eqb-true, eq-eqb, or_left, or_right, or_cases}
+use Rattle.std.proofs.lemmas.Option.{same_Some}
 use Rattle.topo_base.specs.SignedEdge.{edge_of as edge_id, is_forward, same_edge}
 use Rattle.plane_model.specs.declared.rows.EdgeRow.{EdgeRow}
 use Rattle.plane_model.specs.Sets.{rising, has, has_edge}
@@ -32,9 +33,6 @@ next_mate c p k =
       | inl w ↦ ap (after c) (over_other c false (mate c p) (k.kind ∙ w) ∙ sym (over_mate c true p w))
       | inr f ↦ ap (after c) (over_mate c false (mate c p) (k.kind ∙ f) ∙ k.back ∙ sym (over_other c true p f))
     ]
-
-some_same : (x y : ℕ) → Some x ≡ Some y → x ≡ y
-some_same x y e = cc
 
 has-append_left : (ds es : List ℤ) (d : ℤ) → has_edge ds d ≡ true → has_edge (ds ++ es) d ≡ true
 has-append_left [] es d h = cc
@@ -123,7 +121,7 @@ module _ (c : Contents) (w : IsSeen c) where
   one p q l m same =
       let ids : slice_index c.edges (edge_of c.code p) ≡ slice_index c.edges (edge_of c.code q) = sym (id_of_signed p) ∙ ap edge_id same ∙ id_of_signed q in
       let edges : edge_of c.code p ≡ edge_of c.code q =
-      some_same _ _ (sym (w.back (edge_of c.code p) (e_in c w p l)) ∙ ap (number_of c.edges) ids ∙ w.back (edge_of c.code q) (e_in c w q m)) in
+      same_Some _ _ (sym (w.back (edge_of c.code p) (e_in c w p l)) ∙ ap (number_of c.edges) ids ∙ w.back (edge_of c.code q) (e_in c w q m)) in
       let forward : is_forward_at c p ≡ is_forward_at c q = sym (forward_is c w p l) ∙ ap is_forward same ∙ forward_is c w q m in
       elim (one_edge c.code w.sound p q l m edges) [
         | inl s ↦ s

@@ -4,7 +4,7 @@ use Rattle.std.proofs.Common.{◌≡◌, ℕ, zero, suc, ◌⊎◌, inl, inr, �
 use Rattle.std.proofs.lemmas.Bool.{eqb-true, cases_Bool, le-leb, both_ways, or_cases}
 use Rattle.plane_model.specs.Sets.{or_else}
 use Rattle.bit_words.specs.Words.{words_in}
-use Rattle.bit_words.specs.Lists.{first_some}
+use Rattle.bit_words.proofs.Finds.{first_none}
 use Rattle.file_laws.specs.Layout.{counts_in, words_of, file_words, header_words}
 use Rattle.file_laws.specs.Faults.{front_fault, digest_fault, count_fault, unless, magic, wanted_words}
 use Rattle.file_laws.specs.Lawful.{first_fault, is_lawful, content_fault}
@@ -14,11 +14,6 @@ use Rattle.file_laws.specs.declared.fault.FileFault.TheVariants as fault
 or_else_none : {X : Type 0} (o r : Option X) → or_else o r ≡ None → (o ≡ None) × (r ≡ None)
 or_else_none None r h = (refl, h)
 or_else_none (Some x) r h = cc
-
-pub first_none : {X : Type 0} (o : Option X) (os : List (Option X)) → first_some (o ∷ os) ≡ None → (o ≡ None) × (first_some os ≡ None)
-unfolding first_some
-first_none None os h = (refl, h)
-first_none (Some x) os h = cc
 
 pub none-is_none : {X : Type 0} (o : Option X) → is_none o ≡ true → o ≡ None
 none-is_none None h = refl

@@ -7,6 +7,7 @@ use Rattle.topo_base.specs.declared.id.TheConstants.{LARGEST_ID}
 use Rattle.bit_words.specs.Lists.{tabulate}
 use Rattle.bit_words.specs.Bits.{bits_in, fields_in}
 use Rattle.bit_words.specs.Digits.{digits}
+use Rattle.bit_words.proofs.Finds.{first_none}
 use Rattle.parens.specs.Matching.{balance_fault}
 use Rattle.code_laws.specs.SeqFault.{seq_fault, is_sound}
 use Rattle.code_laws.specs.Numbers.{tree_edges}
@@ -20,7 +21,7 @@ use Rattle.file_laws.specs.Held.{names_at, ids_at, contents_of}
 use Rattle.file_laws.specs.Faults.{count_fault, directories_fault, names_fault, all_names_fault, places_fault, start_fault, member_fault, regions_fault, padding_fault, told_in}
 use Rattle.file_laws.specs.Lawful.{is_lawful, is_whole, has_sizes, has_room_for, content_fault}
 use Rattle.file_laws.specs.declared.fault.FileFault.TheVariants as fault
-use Rattle.file_laws.proofs.Lengths.{no_faults, first_none, unless-true}
+use Rattle.file_laws.proofs.Lengths.{no_faults, unless-true}
 use Rattle.file_laws.proofs.Whole.{option_none}
 use Rattle.file_laws.proofs.Rooms.{bound_is, bound_small, names_wide, room_of, rooms_of}
 

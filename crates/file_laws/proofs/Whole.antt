@@ -6,7 +6,7 @@ use Rattle.std.proofs.lemmas.Bool.{cases_lt, and_parts, eqb-true, eq-eqb, leb-tr
 use Rattle.std.proofs.lemmas.List.{get_or_past}
 use Rattle.topo_base.specs.SignedEdge.{comes_before}
 use Rattle.topo_base.specs.declared.id.TheConstants.{LARGEST_ID}
-use Rattle.bit_words.proofs.Finds.{none-find}
+use Rattle.bit_words.proofs.Finds.{none-find, first_none}
 use Rattle.parens.specs.Matching.{balance_fault}
 use Rattle.parens.proofs.Balances.{IsBalanced, balanced-from}
 use Rattle.code_laws.specs.Code.{start_of}
@@ -19,7 +19,7 @@ use Rattle.file_laws.specs.MapOfFile.{signed_at}
 use Rattle.file_laws.specs.Faults.{place_fault, order_fault, isolated_fault, places_fault, start_fault, member_fault, is_place, begins_before, is_smallest, is_ordered, is_isolated}
 use Rattle.file_laws.specs.Lawful.{is_whole, has_sizes, size_tests, whole_tests}
 use Rattle.file_laws.specs.declared.fault.FileFault.TheVariants as fault
-use Rattle.file_laws.proofs.Lengths.{first_none, none-is_none}
+use Rattle.file_laws.proofs.Lengths.{none-is_none}
 use Rattle.file_laws.proofs.Lists.{list_all-at}
 use Rattle.file_laws.proofs.Bridge.{IsSeen}
 use Rattle.file_laws.proofs.Agreement.{test_at, whole_seen}

@@ -7,8 +7,9 @@ use Rattle.std.proofs.lemmas.List.{get_or_default}
 use Rattle.std.proofs.lemmas.Map.Keys.{IsDistinct-from_apart, IsDistinct-cons}
 use Rattle.std.proofs.lemmas.Map.Steps.{length-le_from_distinct_below}
 use Rattle.std.proofs.lemmas.Map.Views.{Contains-from_any}
-use Rattle.bit_words.specs.Lists.{first_some}
+use Rattle.std.proofs.lemmas.Option.{same_Some}
 use Rattle.bit_words.proofs.BitLists.{length-tabulate, get_or-tabulate}
+use Rattle.bit_words.proofs.Finds.{first_none}
 use Rattle.id_names.specs.Names.{AreDistinctIds}
 use Rattle.id_names.specs.RisingNames.{RisingNames, count, id_bound, id_at, number_at, ids_by_number}
 use Rattle.id_names.specs.Faults.{wrong_count, other_ones, is_rising, is_ordered, first_failing, name_fault}
@@ -23,11 +24,6 @@ pub record HasNoFault (p : RisingNames) (high_counts mark_counts : List ℕ) : T
   pub mark_counts_right : wrong_count p.marks mark_counts ≡ None
   pub mark_ones : other_ones p.marks (length p.back) ≡ None
   pub order : first_failing (is_ordered p.places (number_at p)) (count p) ≡ None
-
-first_none : {X : Type 0} (o : Option X) (os : List (Option X)) → first_some (o ∷ os) ≡ None → (o ≡ None) × (first_some os ≡ None)
-unfolding first_some
-first_none None os e = (refl, e)
-first_none (Some x) os e = cc
 
 map_none : {X Y : Type 0} (f : X → Y) (o : Option X) → option_map f o ≡ None → o ≡ None
 map_none f None e = refl
@@ -50,9 +46,6 @@ no_fault_parts p high_counts mark_counts e =
       mark_ones = map_none MarkOnes _ f.0;
       order = map_none Order _ g.0;
     }
-
-same_some : (j k : ℕ) → Some j ≡ Some k → j ≡ k
-same_some j k e = cc
 
 none_is : (q : ℕ) (xs : List ℕ) → list_any (eqb q) xs ≡ false → AllByRecursion (λ y. eqb q y ≡ false) xs
 none_is q [] e = tt
@@ -94,7 +87,7 @@ module _ (p : RisingNames) (high_counts mark_counts : List ℕ) (right : name_fa
 
   -- two numbers whose places are the same are one
   pub one_number : (j k : ℕ) → j < count p → k < count p → get_or p.places j 0 ≡ get_or p.places k 0 → j ≡ k
-  one_number j k h l e = same_some j k (sym (ordered j h).found ∙ ap (number_at p) e ∙ (ordered k l).found)
+  one_number j k h l e = same_Some j k (sym (ordered j h).found ∙ ap (number_at p) e ∙ (ordered k l).found)
 
   differ : (i j d : ℕ) → i < j → j < length p.places → eqb (get_or p.places i d) (get_or p.places j d) ≡ false
   differ i j d l h = ne_eqb _ _ (λ e.

@@ -6,6 +6,7 @@ use Rattle.std.proofs.lemmas.Bool.{and_parts, and_from, leb-true, ltb-true, eqb-
 use Rattle.std.proofs.lemmas.Bool.Decides.{nat_tests}
 use Rattle.std.proofs.lemmas.List.Sums.{AllPass-from_list_all, list_all-from_AllPass}
 use Rattle.std.proofs.lemmas.List.FromFn.{get_or-range_with_len, length-range_with_len}
+use Rattle.std.proofs.lemmas.Option.{same_Some}
 use Rattle.bit_words.specs.Lists.{is_at}
 use Rattle.bit_words.proofs.Finds.{find-least, find-none, least-find, none-find}
 use Rattle.id_names.specs.Names.{is_id, AreDistinct, AreDistinctIds, number_of, is_names}
@@ -50,9 +51,6 @@ pub number_of-missing : (ids : List ℕ) (id : ℕ) → number_of ids id ≡ Non
 unfolding number_of
 number_of-missing ids id e k h f = eqb-false (get_or ids k 0) id (none-find (λ (k : ℕ). eqb (get_or ids k 0) id) 0 (length ids) e k (omega arith) (omega arith)) f
 
-same_some : (j k : ℕ) → Some j ≡ Some k → j ≡ k
-same_some j k e = cc
-
 at_some : (o : Option ℕ) (k : ℕ) → is_at o k ≡ true → o ≡ Some k
 at_some None k e = cc
 at_some (Some i) k e = ap Some (eqb-true i k e)
@@ -91,5 +89,5 @@ names_from_test bound ids t =
       distinct = λ j k h l e.
           let a : number_of ids (get_or ids j 0) ≡ Some j = at_some (number_of ids (get_or ids j 0)) j (parts j h).1 in
           let b : number_of ids (get_or ids k 0) ≡ Some k = at_some (number_of ids (get_or ids k 0)) k (parts k l).1 in
-          same_some j k (sym a ∙ ap (number_of ids) e ∙ b);
+          same_Some j k (sym a ∙ ap (number_of ids) e ∙ b);
     }

@@ -5,7 +5,7 @@ use Rattle.std.proofs.Common.{◌≡◌, ℕ, zero, suc, ◌+◌, ◌-◌, ◌/�
 use Rattle.std.proofs.lemmas.Bool.{cases_eq, and_parts, or_cases, eqb-true, ne_eqb, ltb-true, not-false}
 use Rattle.bit_words.specs.Digits.{digits}
 use Rattle.bit_words.proofs.DigitLaws.{digits-halved}
-use Rattle.bit_words.proofs.Finds.{none-find}
+use Rattle.bit_words.proofs.Finds.{none-find, first_none}
 use Rattle.topo_base.specs.SignedEdge.{comes_before}
 use Rattle.plane_model.proofs.SortedEdges.{before_rank, before_from}
 use Rattle.code_laws.specs.Code.{start_of}
@@ -14,7 +14,7 @@ use Rattle.file_laws.specs.MapOfFile.{signed_at}
 use Rattle.file_laws.specs.Faults.{place_fault, order_fault, isolated_fault, places_fault, is_ordered, is_isolated, precedes, isolated_precedes, isolated_id, is_place}
 use Rattle.file_laws.specs.Lawful.{is_whole, whole_tests}
 use Rattle.file_laws.specs.declared.fault.FileFault.TheVariants as fault
-use Rattle.file_laws.proofs.Lengths.{first_none, none-is_none}
+use Rattle.file_laws.proofs.Lengths.{none-is_none}
 use Rattle.file_laws.proofs.Agreement.{test_at}
 use Rattle.file_laws.proofs.Whole.{option_none}
 use Rattle.navigate.specs.Holes.{place_at}

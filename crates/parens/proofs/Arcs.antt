@@ -179,7 +179,7 @@ arc_to bits low j closes within order l =
     )
 
 -- ---- the mates of an arc
-at_some : (o : Option ℕ) (j : ℕ) → is_at o j ≡ true → o ≡ Some j
+pub at_some : (o : Option ℕ) (j : ℕ) → is_at o j ≡ true → o ≡ Some j
 at_some None j h = cc
 at_some (Some i) j h = ap Some (eqb-true i j h)
 

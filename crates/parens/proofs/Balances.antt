@@ -14,7 +14,7 @@ pub record IsBalanced (bits : List Bool) : Type 0 where
   pub low : (p : ℕ) → p ≤ length bits → pos 0 ≤ℤ excess bits p
   pub end : excess bits (length bits) ≡ pos 0
 
-end-parts : (o : Option ℕ) (even : Bool) (to : ℕ) → or_end o even to ≡ None → (o ≡ None) × (even ≡ true)
+pub end-parts : (o : Option ℕ) (even : Bool) (to : ℕ) → or_end o even to ≡ None → (o ≡ None) × (even ≡ true)
 end-parts None true to h = (refl, refl)
 end-parts None false to h = cc
 end-parts (Some p) even to h = cc

@@ -16,7 +16,7 @@ use Rattle.parens.proofs.Greatest.{falling_skip, falling_same, find-greatest, fi
 pub record IsAbove (bits : List Bool) (gap i : ℕ) : Type 0 where
   pub above : (q : ℕ) → i < q → q ≤ gap → excess bits i <ℤ excess bits q
 
-from_some : (gap : ℕ) (o : Option ℕ) → is_from gap o ≡ true → (j : ℕ) × (o ≡ Some j) × (gap ≤ j)
+pub from_some : (gap : ℕ) (o : Option ℕ) → is_from gap o ≡ true → (j : ℕ) × (o ≡ Some j) × (gap ≤ j)
 from_some gap None h = cc
 from_some gap (Some j) h = (j, refl, leb-true gap j h)
 

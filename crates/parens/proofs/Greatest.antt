@@ -2,6 +2,7 @@
 use Rattle.std.specs.Prelude.{find}
 use Rattle.std.proofs.Common.{◌≡◌, ℕ, zero, suc, ◌+◌, ◌-◌, ◌<◌, ◌≤◌, inl, inr, Bool, true, false, refl, ◌∙◌, subst, arith, Option, Some, None, add-zero}
 use Rattle.std.proofs.lemmas.Bool.{cases_lt, cases_Bool}
+use Rattle.std.proofs.lemmas.Option.{same_Some}
 use Rattle.parens.specs.Matching.{falling}
 
 pub falling_skip : (p : ℕ → Bool) (n k : ℕ) → ((q : ℕ) → n ≤ q → q < n + k → p q ≡ false) → find p (falling (n + k)) ≡ find p (falling n)
@@ -36,16 +37,13 @@ pub record IsGreatest (p : ℕ → Bool) (n k : ℕ) : Type 0 where
   pub passes : p k ≡ true
   pub after : (q : ℕ) → k < q → q < n → p q ≡ false
 
-same_some : (x y : ℕ) → Some x ≡ Some y → x ≡ y
-same_some x y e = cc
-
 pub greatest-find : (p : ℕ → Bool) (n k : ℕ) → find p (falling n) ≡ Some k → IsGreatest p n k
 unfolding falling
 greatest-find p zero k h = cc
 greatest-find p (suc n) k h =
     elim (cases_Bool (p n)) [
       | inl w ↦
-          let e : n ≡ k = same_some n k (rw w at h) in
+          let e : n ≡ k = same_Some n k (rw w at h) in
           record { below = omega arith; passes = subst (λ x. p x ≡ true) e w; after = λ q a b. absurd (omega arith) }
       | inr f ↦
           let more = greatest-find p n k (rw f at h) in

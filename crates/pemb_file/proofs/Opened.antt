@@ -3,6 +3,7 @@ use Rattle.std.specs.Prelude.{option_map, IsSome}
 use Rattle.std.proofs.Common.{◌≡◌, ℕ, Bool, true, List, [], ◌∷◌, length, refl, ap, sym, ◌∙◌, Option, Some, None}
 use Rattle.plane_model.specs.Sets.{or_else}
 use Rattle.bit_words.specs.Lists.{first_some}
+use Rattle.bit_words.proofs.Finds.{first_none}
 use Rattle.parens.specs.Matching.{balance_fault}
 use Rattle.code_laws.specs.Code.{Code}
 use Rattle.code_laws.specs.SeqFault.{seq_fault}
@@ -13,7 +14,6 @@ use Rattle.file_laws.specs.Faults.{front_fault, digest_fault, count_fault, direc
 use Rattle.file_laws.specs.Lawful.{first_fault, content_fault, is_whole}
 use Rattle.file_laws.specs.declared.fault.FileFault.{FileFault}
 use Rattle.file_laws.specs.declared.fault.FileFault.TheVariants as fault
-use Rattle.file_laws.proofs.Lengths.{first_none}
 use Rattle.file_laws.proofs.Whole.{option_none}
 use Rattle.file_laws.proofs.Sections.{counts_fit, whole_words}
 use Rattle.pemb_file.proofs.FrontFaults.{begun_fault, first-some, first-none, first-last}

@@ -7,7 +7,7 @@ use Rattle.std.proofs.lemmas.List.{length-take-le}
 use Rattle.std.proofs.lemmas.Grind.{same_number_lists}
 use Rattle.bit_words.specs.WrongEntry.{wrong_entry, first_wrong}
 use Rattle.bit_words.specs.declared.wrong_entry.WrongEntry.{WrongEntry}
-use Rattle.bit_words.proofs.Finds.{none-find}
+use Rattle.bit_words.proofs.Finds.{none-find, first_none}
 use Rattle.rank_select.specs.Counts.{blocks, counts_of}
 use Rattle.rank_select.proofs.CountLaws.{length-counts_of}
 use Rattle.min_max_tree.specs.Tree.{nodes_of, tree_size}
@@ -23,7 +23,6 @@ use Rattle.pemb_file.specs.Kinds.{is_directory, is_tree}
 use Rattle.pemb_file.specs.Parens.{HasParens}
 use Rattle.file_laws.specs.Faults.{directories_fault, regions_fault}
 use Rattle.file_laws.specs.declared.fault.FileFault.TheVariants as fault
-use Rattle.file_laws.proofs.Lengths.{first_none}
 use Rattle.file_laws.proofs.Whole.{option_none}
 use Rattle.file_laws.proofs.Sections.{length-bits, length-fields}
 use Rattle.file_laws.proofs.Following.{section_within}

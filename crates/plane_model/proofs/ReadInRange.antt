@@ -11,6 +11,7 @@ use Rattle.topo_base.specs.declared.refusal.Table.TheVariants as table
 use Rattle.topo_base.specs.declared.refusal.Column.{Column}
 use Rattle.topo_base.specs.declared.refusal.Column.TheVariants as column
 use Rattle.std.proofs.lemmas.Result.{IfOk-at_ok}
+use Rattle.std.proofs.lemmas.Option.{same_Some}
 use Rattle.topo_base.specs.declared.refusal.Refusal.{Refusal}
 use Rattle.topo_base.specs.declared.refusal.Refusal.TheVariants as refusal
 use Rattle.plane_model.specs.declared.rows.FaceRow.{FaceRow}
@@ -32,12 +33,9 @@ bind-ok (Err x) f b e = cc
 same_ok : {A : Type 0} (x y : A) → ◌≡◌ {A = Result A Refusal} (Ok x) (Ok y) → x ≡ y
 same_ok x y e = cc
 
-same_some : {A : Type 0} (x y : A) → Some x ≡ Some y → x ≡ y
-same_some x y e = cc
-
 ranged : (least n x : ℕ) → in_range least n ≡ Some x → (nat_le least x && nat_le x LARGEST_ID) ≡ true
 ranged least n x e = elim (cases_Bool (nat_le least n && nat_le n LARGEST_ID)) [
-  | inl h ↦ subst (λ k. (nat_le least k && nat_le k LARGEST_ID) ≡ true) (same_some n x (rw h at e)) h
+  | inl h ↦ subst (λ k. (nat_le least k && nat_le k LARGEST_ID) ≡ true) (same_Some n x (rw h at e)) h
   | inr h ↦ let none : ◌≡◌ {A = Option ℕ} None (Some x) = rw h at e in cc
 ]
 
@@ -53,7 +51,7 @@ id-is_face_id bytes n e = (and_parts _ _ (chosen 0 (plain_decimal bytes) n e)).1
 
 mapped : {A B : Type 0} (f : A → B) (o : Option A) (y : B) → option_map f o ≡ Some y → (x : A) × (o ≡ Some x) × (f x ≡ y)
 mapped f None y e = cc
-mapped f (Some x) y e = (x, refl, same_some _ _ e)
+mapped f (Some x) y e = (x, refl, same_Some _ _ e)
 
 signed_in_range : (d : ℤ) (n : ℕ) → edge_of d ≡ n → is_id n ≡ true → is_signed_edge d ≡ true
 signed_in_range d n e h = subst (λ k. is_id k ≡ true) (sym e) h

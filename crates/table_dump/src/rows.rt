@@ -16,7 +16,11 @@ use std::sync::ledger::Ledger;
 use topo_base::IdNumber;
 
 /// The id of the face that contains the node of a number, where the node is isolated.
-fn enclosing_face<C: Ledger>(served: Served<'_>, node: usize, steps: &mut Steps<C>) -> Option<IdNumber>
+fn enclosing_face<C: Ledger>(
+    served: Served<'_>,
+    node: usize,
+    steps: &mut Steps<C>,
+) -> Option<IdNumber>
     requires { node < length (contents_of_view served).nodes }
     ensures face { result ≡ enclosing_face (contents_of_view served.entry) node }
     ensures grows { steps.old ≤ steps.new }

@@ -1,6 +1,7 @@
 -- The records that a reader has left, from one record to the next.
 use Rattle.std.proofs.Common.{◌≡◌, ℕ, zero, suc, ◌+◌, ◌-◌, ◌<◌, ◌≤◌, inl, inr, Bool, true, false, ◌&&◌, ◌==◌, List, [], ◌∷◌, ◌++◌, length, refl, sym, ap, ◌∙◌, arith, Option, Some, None, IsSome, if◌then◌else◌, Bor, add-one}
 use Rattle.std.proofs.lemmas.Bool.{cases_Bool}
+use Rattle.std.proofs.lemmas.Option.{same_Some}
 use Rattle.csv.specs.Machine.{Read, next_record, step, in_field, start_field, start_record, is_end, ends_at_end, after_end, ends_with, is_byte, fields_after, field_after, carriage_return}
 use Rattle.csv.specs.Reading.{records_from, records_next, Reached, ReadRecord, default_config, is_flexible, reader_state, took_first}
 use Rattle.csv.specs.declared.parser.Config.{Config}
@@ -55,9 +56,6 @@ clean_step cfg st.AfterQuote c = clean_if (cfg.quoting && cfg.double_quote && (c
 clean_step cfg st.InComment c = clean_if (c == 10) _ _ (skips st.StartRecord) (skips st.InComment)
 clean_step cfg st.AfterCr c = clean_if (c == 10) _ _ (skips st.StartRecord) (clean_start_record cfg c)
 
-same_some : {X : Type 0} (x y : X) → Some x ≡ Some y → x ≡ y
-same_some x y e = cc
-
 -- a record that was read, between two records and with less behind it
 record LeavesLess (xs : List ℕ) (r : Read) : Type 0 where
   between : ends_at_end r.1 ≡ false
@@ -67,13 +65,13 @@ leaves_less : (cfg : Config) (xs : List ℕ) (s : State) (f : List (List ℕ)) (
 unfolding next_record Clean
 leaves_less cfg [] s f p r e = elim (cases_Bool (ends_at_end s)) [
   | inl h ↦
-      let is : ◌≡◌ {A = Read} (f ++ (p ∷ []), st.StartRecord, []) r = same_some _ r (rw h at e) in
+      let is : ◌≡◌ {A = Read} (f ++ (p ∷ []), st.StartRecord, []) r = same_Some _ r (rw h at e) in
       record { between = ap (λ (x : Read). ends_at_end x.1) (sym is); less = let le = ap (λ (x : Read). length x.2) is in omega arith }
   | inr h ↦ let is : ◌≡◌ {A = Option Read} None (Some r) = rw h at e in cc
 ]
 leaves_less cfg (c ∷ rest) s f p r e = elim (cases_Bool (is_end (step cfg s c).1)) [
   | inl h ↦
-      let is : ◌≡◌ {A = Read} (fields_after (step cfg s c).1 f p, (step cfg s c).0, rest) r = same_some _ r (rw h at e) in
+      let is : ◌≡◌ {A = Read} (fields_after (step cfg s c).1 f p, (step cfg s c).0, rest) r = same_Some _ r (rw h at e) in
       record { between = ap (λ (x : Read). ends_at_end x.1) (sym is) ∙ clean_step cfg s c h; less = let le = ap (λ (x : Read). length x.2) is in omega arith }
   | inr h ↦
       let more = leaves_less cfg rest (step cfg s c).0 (fields_after (step cfg s c).1 f p) (field_after (step cfg s c).1 c p) r (rw h at e) in
