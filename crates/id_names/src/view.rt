@@ -70,6 +70,30 @@ impl<'a> NamesView<'a> {
         self.inverse.places.count()
     }
 
+    /// The place of a number's id in the list of names that rises by id.
+    #[inline]
+    pub fn rank_of<C: Ledger>(&self, number: usize, steps: &mut Steps<C>) -> usize
+        requires { number < length (ids_of self.now) }
+        ensures within { result < length (ids_of self.now) }
+        ensures place { result ≡ slice_index (names_in self.now).places number }
+        ensures id { slice_index (ids_of self.now) number ≡ id_at (names_in self.now) result }
+        ensures some_steps { steps.old + 1 ≤ steps.new }
+        ensures cost { steps.new ≤ steps.old + 2 }
+    {
+        self.inverse.places.field(number, steps) as usize
+    }
+
+    /// The id at a place of that list.
+    #[inline]
+    pub fn id_at<C: Ledger>(&self, place: usize, steps: &mut Steps<C>) -> IdNumber
+        requires { place < length (ids_of self.now) }
+        ensures id { result ≡ id_at (names_in self.now) place }
+        ensures some_steps { steps.old + 1 ≤ steps.new }
+        ensures cost { steps.new ≤ steps.old + 3 * digits (length (ids_of self.now) + 2) + 18 }
+    {
+        self.ids.id(place, steps)
+    }
+
     /// The id of a number.
     #[inline]
     pub fn id_of<C: Ledger>(&self, number: usize, steps: &mut Steps<C>) -> IdNumber
@@ -78,8 +102,8 @@ impl<'a> NamesView<'a> {
         ensures some_steps { steps.old + 1 ≤ steps.new }
         ensures cost { steps.new ≤ steps.old + 3 * digits (length (ids_of self.now) + 2) + 20 }
     {
-        let place = self.inverse.places.field(number, steps) as usize;
-        self.ids.id(place, steps)
+        let place = self.rank_of(number, steps);
+        self.id_at(place, steps)
     }
 
     /// The place of the list at which this id stands, or None where it stands at none.
