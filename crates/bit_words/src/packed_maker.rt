@@ -118,7 +118,8 @@ impl PackedMaker {
     pub(crate) fn chunk(&self, j: usize) -> u64
         requires bits { self.now.width ≡ 1 }
         requires within { 64 * j < length self.now.items }
-        ensures { (k : ℕ) → k < 64 → is_set result k ≡ slice_index_or (map (λ x. x == 1) self.now.items) (64 * j + k) false }
+        ensures { (k : ℕ) → k < 64 → is_set result k
+            ≡ slice_index_or (map (λ x. x == 1) self.now.items) (64 * j + k) false }
     {
         self.words[j]
     }

@@ -1,4 +1,5 @@
--- What stands round a gap: a pair of the same component. Two positions have one number exactly where they are beside each other.
+-- What stands round a gap: a pair of the same component. Two positions have one number exactly where they are beside
+-- each other.
 use Rattle.std.specs.Prelude.{option_map, filter, Contains, ◌++◌}
 use Rattle.std.specs.List.{range_with_len}
 use Rattle.std.proofs.Common.{◌≡◌, ℕ, zero, suc, ◌+◌, ◌-◌, ◌<◌, ◌≤◌, inl, inr, Bool, true, false, List, [], ◌∷◌, length, refl, ap, sym, ◌∙◌, arith, subst, Option, Some, None}

@@ -1,4 +1,5 @@
--- The pairs round each gap, the outermost first: one more after a place that opens, and the last one less after a place that closes.
+-- The pairs round each gap, the outermost first: one more after a place that opens, and the last one less after a place
+-- that closes.
 use Rattle.std.specs.Prelude.{pos, ◌+ℤ◌, ◌≤ℤ◌, filter, map, option_map, ◌++◌, if◌then◌else◌}
 use Rattle.std.specs.List.{range_with_len}
 use Rattle.std.proofs.Common.{◌≡◌, ℕ, zero, suc, ◌+◌, ◌-◌, ◌<◌, ◌≤◌, inl, inr, Bool, true, false, List, [], ◌∷◌, length, refl, ap, sym, ◌∙◌, arith, subst, Option, Some, None}

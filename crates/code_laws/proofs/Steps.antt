@@ -1,4 +1,5 @@
--- On a sound code a step goes from each position with a number to the next one with it, and from the last one to the first.
+-- On a sound code a step goes from each position with a number to the next one with it, and from the last one to the
+-- first.
 use Rattle.std.specs.Prelude.{pos, filter}
 use Rattle.std.proofs.Common.{◌≡◌, ◌≢◌, ℕ, zero, suc, ◌+◌, ◌-◌, ◌<◌, ◌≤◌, inl, inr, Bool, true, false, List, ◌∷◌, length, refl, ap, sym, ◌∙◌, arith, subst, Option, Some, None, ◌==◌}
 use Rattle.std.specs.List.{range_with_len}
@@ -102,7 +103,8 @@ module _ (c : Code) (w : IsWell c) (kind : Bool) (first : ℕ) (first_in : first
         let b = beside_from (start_of c m) (omega arith) (omega (arith, i.from, i.to)) (at_start ∙ sym e) in
         elim (cases_lt (start_of c m) first) [ inl l ↦ absurd (both_ways _ (none_before (start_of c m) l) b) | inr g ↦ omega (arith, g, first_from) ]
 
-    -- from x on, where no position of the component after p has p's number: on to x + 1, which has it, or round to the start
+    -- from x on, where no position of the component after p has p's number: on to x + 1, which has it, or round to the
+    -- start
     pub goes_after : (x : ℕ) → component_of c x ≡ m → p ≤ x → x < end_of c m → enclosing_pair c kind (x + 1) ≡ enclosing_pair c kind p
         → ((y : ℕ) → p < y → y ≤ x → is_beside c kind first y ≡ false) → Goes (is_beside c kind first) (length c.a) first p (after c x)
     goes_after x is l r same none =

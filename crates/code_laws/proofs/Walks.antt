@@ -1,4 +1,5 @@
--- A walk that goes from each number with a property to the next one with it, and from the last one back, is the list of these numbers.
+-- A walk that goes from each number with a property to the next one with it, and from the last one back, is the list of
+-- these numbers.
 use Rattle.std.proofs.Common.{◌≡◌, ℕ, zero, suc, ◌+◌, ◌-◌, ◌<◌, ◌≤◌, ◌⊎◌, inl, inr, Bool, true, false, [], ◌∷◌, refl, sym, ap, subst, arith, ◌==◌, eq-eqb}
 use Rattle.std.specs.Prelude.{filter}
 use Rattle.std.specs.List.{range_with_len}

@@ -10,7 +10,8 @@ use Rattle.code_laws.specs.declared.ring_number.RingNumber.TheVariants.{Outer, S
 unfoldable pub picked : Bool → List Bool → List Bool → List Bool
 picked kind tree first = map (λ x. x.1) (filter (λ x. same kind x.0) (zip tree first))
 
--- the code of a walk: for each position whether its edge is of the tree and whether it is the first of its edge, and the starts
+-- the code of a walk: for each position whether its edge is of the tree and whether it is the first of its edge, and
+-- the starts
 abbrev pub code_of : List Bool → List Bool → List ℕ → Code
 code_of tree first starts = record { a = tree; tree = picked true tree first; dual = picked false tree first; starts = starts }
 

@@ -1,6 +1,6 @@
--- A walk w 0, w 1, .., w n that goes along each pair once in each direction, and stays where a point has no pair. Each new
--- place is reached by the first step of a pair, so with as many places as can be, each second step goes back along the step
--- that was opened last.
+-- A walk w 0, w 1, .., w n that goes along each pair once in each direction, and stays where a point has no pair. Each
+-- new place is reached by the first step of a pair, so with as many places as can be, each second step goes back along
+-- the step that was opened last.
 use Rattle.std.proofs.Common.{◌≡◌, ℕ, zero, suc, ◌<◌, ◌≤◌, Bool, true, false, cond, ltb, eqb, List, [], ◌∷◌, ◌⊎◌, inl, inr, ⊎_elim, refl, sym, ap, ◌∙◌, subst, arith}
 use Rattle.std.proofs.lemmas.Bool.{false≢true, ltb-false, lt-ltb, eqb-true, eq-eqb, or_cases, or_left, or_right, cases_lt, cases_eq}
 use Rattle.cycle_pairs.specs.Pairs.{IsPairing, pairs, is_used, colours}

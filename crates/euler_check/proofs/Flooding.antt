@@ -149,7 +149,8 @@ marked_from edges number numbers (suc n) x h = elim (or_cases (same_edge x (sign
 abbrev pub part_has : RotationRows → ℕ → ℕ → Bool
 part_has r first d = has_edge (component (map_of_rotation r) (signed_edge r.edges first)) (signed_edge r.edges d)
 
--- The darts of the component have the number or none; of those that have it the reverse and the turn have it too, but for those that wait.
+-- The darts of the component have the number or none; of those that have it the reverse and the turn have it too, but
+-- for those that wait.
 pub record IsFlooding (r : RotationRows) (first number : ℕ) (old new : List (Option ℕ)) (waiting : List ℕ) : Type 0 where
   pub size : length new ≡ length old
   pub begun : number_at new first ≡ Some number

@@ -14,7 +14,8 @@ pub record DartsGetNumber (edges : List EdgeRow) (part : List ℤ) (number : ℕ
   pub inside : (d : ℕ) → d < 2 * length edges → IsTrue (has_edge part (signed_edge edges d)) → number_at new d ≡ Some number
   pub outside : (d : ℕ) → d < 2 * length edges → IsFalse (has_edge part (signed_edge edges d)) → number_at new d ≡ number_at old d
 
--- The first k darts have the numbers of their parts, and so have the others of these parts; numbers are given in the order of the first darts.
+-- The first k darts have the numbers of their parts, and so have the others of these parts; numbers are given in the
+-- order of the first darts.
 pub record FirstAreNumbered (edges : List EdgeRow) (part : ℤ → List ℤ) (k count : ℕ) (numbers : List (Option ℕ)) : Type 0 where
   pub size : length numbers ≡ 2 * length edges
   pub few : count < k + 1

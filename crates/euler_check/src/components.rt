@@ -40,8 +40,11 @@ fn mark_component(
     requires rotation { IsRotation rotation.now }
     requires size { length numbers.old ≡ 2 * length rotation.now.edges }
     requires first { first < 2 * length rotation.now.edges }
-    requires fresh { (d : ℕ) → d < 2 * length rotation.now.edges → IsTrue (has_edge (component (map_of_rotation rotation.now) (signed_edge rotation.now.edges first)) (signed_edge rotation.now.edges d)) → number_at numbers.old d ≡ None }
-    ensures { OnOk result (DartsGetNumber rotation.now.edges (component (map_of_rotation rotation.now) (signed_edge rotation.now.edges first)) number numbers.old numbers.new) }
+    requires fresh { (d : ℕ) → d < 2 * length rotation.now.edges
+        → IsTrue (has_edge (component (map_of_rotation rotation.now) (signed_edge rotation.now.edges first))
+        (signed_edge rotation.now.edges d)) → number_at numbers.old d ≡ None }
+    ensures { OnOk result (DartsGetNumber rotation.now.edges (component (map_of_rotation rotation.now)
+        (signed_edge rotation.now.edges first)) number numbers.old numbers.new) }
 {
     // darts of the component whose reverse and turn may have no number
     let mut waiting = Vec::new(alloc);
@@ -55,7 +58,8 @@ fn mark_component(
 
 /// Numbers the components, from 0 by the first dart that belongs to each.
 pub fn number_components(alloc: Global, rotation: &Rotation) -> Result<PartNumbering, AllocError>
-    ensures numbers { IfOk result (λ numbering. ArePartNumbers rotation.now.edges (component (map_of_rotation rotation.now)) numbering) }
+    ensures numbers { IfOk result (λ numbering. ArePartNumbers rotation.now.edges
+        (component (map_of_rotation rotation.now)) numbering) }
     ensures count { IfOk result (λ numbering. numbering.count ≡ length (components (map_of_rotation rotation.now))) }
 {
     let darts = 2 * rotation.edges();

@@ -40,7 +40,8 @@ pub fn parts(alloc: Global, rotation: &Rotation) -> Result<Parts, CheckFault>
     ensures parts { IfOk result (AreParts rotation.now) }
     ensures fine { OnOk result (parts_fault rotation.now ≡ None) }
     ensures refused { IfErr result (λ e. Names e (parts_fault rotation.now)) }
-    ensures exactly { is_none (parts_fault rotation.now) ≡ (is_labelled (map_of_rotation rotation.now) && is_plane (map_of_rotation rotation.now)) }
+    ensures exactly { is_none (parts_fault rotation.now)
+        ≡ (is_labelled (map_of_rotation rotation.now) && is_plane (map_of_rotation rotation.now)) }
 {
     if let Some(refusal) = first_mixed_ring(rotation) {
         return Err(CheckFault::Refused(refusal));

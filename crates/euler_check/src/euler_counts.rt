@@ -28,7 +28,8 @@ fn count_darts(
     darts: &[Option<u32>],
 ) -> Result<Vec<u32>, AllocError>
     requires below { (d : ℕ) → d < length parts.now.of_darts → slice_index parts.now.of_darts d < parts.now.count }
-    requires within { (i d : ℕ) → i < length darts.now → number_at darts.now i ≡ Some d → d < length parts.now.of_darts }
+    requires within { (i d : ℕ) → i < length darts.now → number_at darts.now i ≡ Some d
+        → d < length parts.now.of_darts }
     requires few { length darts.now < 2 ^ 32 }
     ensures { IfOk result (λ counts. AreCounted parts.now (number_at darts.now) (length darts.now) counts.items) }
 {
@@ -112,7 +113,8 @@ impl<'a> EulerCounts<'a> {
         components: &'a PartNumbering,
     ) -> Result<Self, AllocError>
         requires rings { ArePartNumbers rotation.now.edges (ring (map_of_rotation rotation.now)) rings.now }
-        requires components { ArePartNumbers rotation.now.edges (component (map_of_rotation rotation.now)) components.now }
+        requires components { ArePartNumbers rotation.now.edges (component (map_of_rotation rotation.now))
+            components.now }
         ensures rotation { IfOk result (λ counts. counts.rotation.now ≡ rotation.now) }
         ensures counts { IfOk result AreEulerCounts }
     {
@@ -129,7 +131,8 @@ impl<'a> EulerCounts<'a> {
     fn is_plane(&self, dart: u32) -> bool
         requires counts { AreEulerCounts self.now }
         requires dart { dart < 2 * length self.now.rotation.now.edges }
-        ensures { result ≡ is_plane_component (map_of_rotation self.now.rotation.now) (signed_edge self.now.rotation.now.edges dart) }
+        ensures { result ≡ is_plane_component (map_of_rotation self.now.rotation.now)
+            (signed_edge self.now.rotation.now.edges dart) }
     {
         let component = self.components.number(dart) as usize;
         let nodes_and_rings = u64::from(self.nodes[component]) + u64::from(self.rings[component]);
@@ -140,7 +143,8 @@ impl<'a> EulerCounts<'a> {
     fn refusal(&self, dart: u32) -> Refusal
         requires counts { AreEulerCounts self.now }
         requires dart { dart < 2 * length self.now.rotation.now.edges }
-        ensures { result ≡ euler_refusal (map_of_rotation self.now.rotation.now) (signed_edge self.now.rotation.now.edges dart) }
+        ensures { result ≡ euler_refusal (map_of_rotation self.now.rotation.now)
+            (signed_edge self.now.rotation.now.edges dart) }
     {
         let component = self.components.number(dart) as usize;
         Refusal::Euler {

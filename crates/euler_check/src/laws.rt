@@ -12,7 +12,10 @@ ghost use Rattle.euler_check.specs.Orbits.{orbit_names};
 /// The lengths of the orbits of a permutation sum to the number of signed edges, and so do those of rings and of
 /// components.
 pub fn lengths_sum()
-    ensures orbits { (us : List ℤ) (step : ℤ → ℤ) → IsTrue (is_distinct_edges us) → Permutes us step → sum_by (λ d. length (until_return (length us) step d d)) (orbit_names us step) ≡ length us }
-    ensures rings { (t : Rows) → IsTrue (is_rotation (map_of t)) → sum_by (λ d. length (ring (map_of t) d)) (rings (map_of t)) ≡ length (signed_edges (map_of t)) }
-    ensures components { (t : Rows) → IsTrue (is_rotation (map_of t)) → sum_by (λ d. length (component (map_of t) d)) (components (map_of t)) ≡ length (signed_edges (map_of t)) }
+    ensures orbits { (us : List ℤ) (step : ℤ → ℤ) → IsTrue (is_distinct_edges us) → Permutes us step
+        → sum_by (λ d. length (until_return (length us) step d d)) (orbit_names us step) ≡ length us }
+    ensures rings { (t : Rows) → IsTrue (is_rotation (map_of t))
+        → sum_by (λ d. length (ring (map_of t) d)) (rings (map_of t)) ≡ length (signed_edges (map_of t)) }
+    ensures components { (t : Rows) → IsTrue (is_rotation (map_of t))
+        → sum_by (λ d. length (component (map_of t) d)) (components (map_of t)) ≡ length (signed_edges (map_of t)) }
 {}

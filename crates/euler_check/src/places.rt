@@ -18,7 +18,8 @@ pub fn darts_of_rings(
     rings: &PartNumbering,
 ) -> Result<Vec<Option<u32>>, AllocError>
     requires { ArePartNumbers rotation.now.edges (ring (map_of_rotation rotation.now)) rings.now }
-    ensures places { IfOk result (λ darts. AreLabelDarts (HasNumber rings.now) rings.now.count (2 * length rotation.now.edges) darts.items) }
+    ensures places { IfOk result (λ darts. AreLabelDarts (HasNumber rings.now) rings.now.count
+        (2 * length rotation.now.edges) darts.items) }
     ensures few { IfOk result (λ darts. length darts.items < 2 ^ 32) }
     ensures rotation { OnOk result (IsRotation rotation.now) }
 {
@@ -31,7 +32,8 @@ pub fn darts_of_rings(
 
 /// A dart that leaves each node, by the node's row; none leaves an isolated node.
 pub fn darts_of_nodes(alloc: Global, rotation: &Rotation) -> Result<Vec<Option<u32>>, AllocError>
-    ensures places { IfOk result (λ darts. AreLabelDarts (LeavesRow rotation.now) (length rotation.now.nodes) (2 * length rotation.now.edges) darts.items) }
+    ensures places { IfOk result (λ darts. AreLabelDarts (LeavesRow rotation.now) (length rotation.now.nodes)
+        (2 * length rotation.now.edges) darts.items) }
     ensures few { IfOk result (λ darts. length darts.items < 2 ^ 32) }
     ensures rotation { OnOk result (IsRotation rotation.now) }
 {

@@ -15,7 +15,8 @@ use std::alloc::{AllocError, Global};
 fn mark_ring(rotation: &Rotation, first: u32, number: u32, numbers: &mut [Option<u32>])
     requires size { length numbers.old ≡ 2 * length rotation.now.edges }
     requires first { first < 2 * length rotation.now.edges }
-    ensures { DartsGetNumber rotation.now.edges (ring (map_of_rotation rotation.now) (signed_edge rotation.now.edges first)) number numbers.old numbers.new }
+    ensures { DartsGetNumber rotation.now.edges (ring (map_of_rotation rotation.now)
+        (signed_edge rotation.now.edges first)) number numbers.old numbers.new }
 {
     let mut dart = first;
     for _ in 0..2 * rotation.edges() {
@@ -29,7 +30,8 @@ fn mark_ring(rotation: &Rotation, first: u32, number: u32, numbers: &mut [Option
 
 /// Numbers the rings, from 0 by the first dart that belongs to each.
 pub fn number_rings(alloc: Global, rotation: &Rotation) -> Result<PartNumbering, AllocError>
-    ensures numbers { IfOk result (λ numbering. ArePartNumbers rotation.now.edges (ring (map_of_rotation rotation.now)) numbering) }
+    ensures numbers { IfOk result (λ numbering. ArePartNumbers rotation.now.edges
+        (ring (map_of_rotation rotation.now)) numbering) }
     ensures count { IfOk result (λ numbering. numbering.count ≡ length (rings (map_of_rotation rotation.now))) }
 {
     let darts = 2 * rotation.edges();

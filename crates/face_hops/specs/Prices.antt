@@ -18,7 +18,8 @@ unfoldable pub along : PlaneMap → List ℕ → ℕ
 along m [] = 0
 along m (f ∷ fs) = length (face_edges m f) + along m fs
 
--- what going round a face costs at most for each of its signed edges: a step of the search for the smallest, and a look across
+-- what going round a face costs at most for each of its signed edges: a step of the search for the smallest, and a look
+-- across
 abbrev pub edge_price : Contents → ℕ
 edge_price c = orbits.price c + rings.pass_price c
 

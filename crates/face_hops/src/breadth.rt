@@ -14,7 +14,8 @@ use scratch_region::Numbers;
 use std::sync::ledger::Ledger;
 
 /// A search by breadth from the face at a place. A face that was reached has 1 + its distance as its number, and all
-/// others 0. The faces that were reached stand in a queue, the nearest first, and those before its head were gone round.
+/// others 0. The faces that were reached stand in a queue, the nearest first, and those before its head were gone
+/// round.
 #[derive(Drop)]
 pub(crate) struct Search<'a, 'r> {
     served: Served<'a>,
@@ -95,9 +96,12 @@ impl<'a, 'r> Search<'a, 'r> {
         ensures served { self.new.served ≡ self.old.served }
         ensures from { self.new.from ≡ self.old.from }
         ensures head { self.new.head ≡ self.old.head + 1 }
-        ensures kept { (i : ℕ) → i ≤ self.old.head → slice_index (numbers_of self.new.queue) i ≡ slice_index (numbers_of self.old.queue) i }
+        ensures kept { (i : ℕ) → i ≤ self.old.head
+            → slice_index (numbers_of self.new.queue) i ≡ slice_index (numbers_of self.old.queue) i }
         ensures grows { steps.old ≤ steps.new }
-        ensures paid { steps.new ≤ steps.old + rounds_price (contents_of_view self.old.served) (face_at_place (contents_of_view self.old.served) (slice_index (numbers_of self.old.queue) self.old.head) ∷ []) }
+        ensures paid { steps.new ≤ steps.old + rounds_price (contents_of_view self.old.served)
+            (face_at_place (contents_of_view self.old.served) (slice_index (numbers_of self.old.queue) self.old.head)
+            ∷ []) }
     {
         let place = self.queue.get(self.head) as usize;
         let number = self.numbers.get(place) + 1;

@@ -48,7 +48,8 @@ fn walk_over<'a, 'r, C: Ledger>(
     requires numbers { numbers_of numbers ≡ replicate (length (contents_of_view served).faces + 1) 0 }
     requires queue { numbers_of queue ≡ replicate (length (contents_of_view served).faces + 1) 0 }
     ensures room { IsFalse (is_short result) }
-    ensures known { is_walk result ≡ (is_face (served_map served.entry) from.0 && is_face (served_map served.entry) to.0) }
+    ensures known { is_walk result ≡ (is_face (served_map served.entry) from.0
+        && is_face (served_map served.entry) to.0) }
     ensures list { IfWalk result (λ w. rest w ≡ hops (served_map served.entry) from.0 to.0) }
     ensures moves { IfWalk result (λ w. distance (served_map served.entry) from.0 to.0 ≡ Some (moves_of w)) }
     ensures fresh { IfWalk result (λ w. IsFalse (is_begun w)) }
@@ -75,11 +76,13 @@ pub fn hop_walk<'a, 'r, C: Ledger>(
     room: Region<'r>,
     steps: &mut Steps<C>,
 ) -> Found<'a, 'r>
-    ensures short { IsTrue (is_short result) ↔ (words_left room.entry < 2 * (length (served_map served.entry).faces + 1)) }
+    ensures short { IsTrue (is_short result)
+        ↔ (words_left room.entry < 2 * (length (served_map served.entry).faces + 1)) }
     ensures need { IfShort result (λ short. short.need ≡ 2 * (length (served_map served.entry).faces + 1)) }
     ensures had { IfShort result (λ short. short.left ≡ words_left room.entry) }
     ensures kept { IfShort result (λ short. short.region ≡ room.entry) }
-    ensures known { IsFalse (is_short result) → is_walk result ≡ (is_face (served_map served.entry) from.0 && is_face (served_map served.entry) to.0) }
+    ensures known { IsFalse (is_short result)
+        → is_walk result ≡ (is_face (served_map served.entry) from.0 && is_face (served_map served.entry) to.0) }
     ensures list { IfWalk result (λ w. rest w ≡ hops (served_map served.entry) from.0 to.0) }
     ensures moves { IfWalk result (λ w. distance (served_map served.entry) from.0 to.0 ≡ Some (moves_of w)) }
     ensures fresh { IfWalk result (λ w. IsFalse (is_begun w)) }

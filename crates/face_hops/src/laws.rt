@@ -19,8 +19,14 @@ pub fn distance_is_least()
 /// In consistent tables a path leads from each face to each other, of no more moves than there are faces other than 0.
 /// The way has one face more than moves, each once, and of two adjacent faces each is beside the other.
 pub fn paths_between_faces()
-    ensures some { (t : Rows) (f g : ℕ) → IsTrue (is_in_range t) → IsTrue (is_consistent t) → IsTrue (is_face (map_of t) f) → IsTrue (is_face (map_of t) g) → (n : ℕ) × (distance (map_of t) f g ≡ Some n) × (n ≤ length (map_of t).faces) }
-    ensures long { (t : Rows) (f g n : ℕ) → IsTrue (is_in_range t) → IsTrue (is_consistent t) → IsTrue (is_face (map_of t) f) → distance (map_of t) f g ≡ Some n → length (hops (map_of t) f g) ≡ n + 1 }
-    ensures apart { (t : Rows) (f g n : ℕ) → IsTrue (is_in_range t) → IsTrue (is_consistent t) → IsTrue (is_face (map_of t) f) → distance (map_of t) f g ≡ Some n → IsTrue (is_distinct (hops (map_of t) f g)) }
-    ensures mutual { (t : Rows) (f g : ℕ) → IsTrue (is_in_range t) → IsTrue (is_consistent t) → IsTrue (has (adjacent (map_of t) f) g) → IsTrue (has (adjacent (map_of t) g) f) }
+    ensures some { (t : Rows) (f g : ℕ) → IsTrue (is_in_range t) → IsTrue (is_consistent t)
+        → IsTrue (is_face (map_of t) f) → IsTrue (is_face (map_of t) g)
+        → (n : ℕ) × (distance (map_of t) f g ≡ Some n) × (n ≤ length (map_of t).faces) }
+    ensures long { (t : Rows) (f g n : ℕ) → IsTrue (is_in_range t) → IsTrue (is_consistent t)
+        → IsTrue (is_face (map_of t) f) → distance (map_of t) f g ≡ Some n → length (hops (map_of t) f g) ≡ n + 1 }
+    ensures apart { (t : Rows) (f g n : ℕ) → IsTrue (is_in_range t) → IsTrue (is_consistent t)
+        → IsTrue (is_face (map_of t) f) → distance (map_of t) f g ≡ Some n
+        → IsTrue (is_distinct (hops (map_of t) f g)) }
+    ensures mutual { (t : Rows) (f g : ℕ) → IsTrue (is_in_range t) → IsTrue (is_consistent t)
+        → IsTrue (has (adjacent (map_of t) f) g) → IsTrue (has (adjacent (map_of t) g) f) }
 {}

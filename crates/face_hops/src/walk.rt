@@ -53,10 +53,13 @@ impl<'a, 'r> HopWalk<'a, 'r> {
         requires place { place ≤ length (contents_of_view served).faces }
         requires to { to ≤ length (contents_of_view served).faces }
         requires distances { AreDistances (contents_of_view served) to (numbers_of distances) }
-        ensures list { rest result ≡ hops (served_map served.entry) (face_at_place (contents_of_view served.entry) place) (face_at_place (contents_of_view served.entry) to) }
-        ensures moves { distance (served_map served.entry) (face_at_place (contents_of_view served.entry) place) (face_at_place (contents_of_view served.entry) to) ≡ Some (moves_of result) }
+        ensures list { rest result ≡ hops (served_map served.entry)
+            (face_at_place (contents_of_view served.entry) place) (face_at_place (contents_of_view served.entry) to) }
+        ensures moves { distance (served_map served.entry) (face_at_place (contents_of_view served.entry) place)
+            (face_at_place (contents_of_view served.entry) to) ≡ Some (moves_of result) }
         ensures fresh { IsFalse (is_begun result) }
-        ensures paid { allowance result ≡ rounds_price (contents_of_view served.entry) (rest result) + name_price (contents_of_view served.entry) * length (rest result) }
+        ensures paid { allowance result ≡ rounds_price (contents_of_view served.entry) (rest result)
+            + name_price (contents_of_view served.entry) * length (rest result) }
     {
         let number = distances.get(place);
         HopWalk {
@@ -104,7 +107,8 @@ impl<'a, 'r> HopWalk<'a, 'r> {
         ensures within { result ≤ length (contents_of_view self.now.served).faces }
         ensures way { GoesOnAt (contents_of_view self.now.served) self.now.to self.now.place result }
         ensures some_steps { steps.old + 1 ≤ steps.new }
-        ensures paid { steps.new ≤ steps.old + rounds_price (contents_of_view self.now.served) (face_at_place (contents_of_view self.now.served) self.now.place ∷ []) }
+        ensures paid { steps.new ≤ steps.old + rounds_price (contents_of_view self.now.served)
+            (face_at_place (contents_of_view self.now.served) self.now.place ∷ []) }
     {
         let number = self.distances.get(self.place);
         let mut rings = rings_at(self.served, self.place, steps);

@@ -15,7 +15,8 @@ use Rattle.plane_model.specs.Rows.{Rows}
 use Rattle.plane_model.specs.Sets.{rising}
 use Rattle.file_laws.specs.Contents.{Contents}
 
--- the signed edge at a position: forward at the first position of its edge where its bit is 1, and at the second where it is 0
+-- the signed edge at a position: forward at the first position of its edge where its bit is 1, and at the second where
+-- it is 0
 abbrev pub is_forward_at : Contents → ℕ → Bool
 is_forward_at c p = same (is_first c.code p) (slice_index_or c.forward (edge_of c.code p) false)
 

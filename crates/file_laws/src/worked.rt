@@ -56,7 +56,8 @@ pub fn smallest_file()
     ensures empty_length { length empty ≡ 33 }
     ensures empty_lawful { is_lawful (sealed empty) ≡ true }
     ensures empty_image { image_of 1 (contents_of empty) ≡ sealed empty }
-    ensures empty_map { map_of_file (sealed empty) ≡ record { nodes = []; edges = []; faces = []; regions = []; members = [] } }
+    ensures empty_map { map_of_file (sealed empty)
+        ≡ record { nodes = []; edges = []; faces = []; regions = []; members = [] } }
     ensures empty_want { file_words (counts_with 1 0 0 0 0 0) ≡ 33 }
     ensures empty_wide_want { file_words (counts_with 2 0 0 0 0 0) ≡ 33 }
 {}
@@ -74,17 +75,22 @@ pub fn cut_files()
     ensures another_width { first_fault (bytes_of (with_word 1 2)) ≡ Some (fault.Length 54 52) }
     ensures wide_cut { first_fault (bytes_of (take 53 wide_tri)) ≡ Some (fault.Length 54 53) }
     ensures wide_want { file_words (counts_with 1 18446744073709551615 2 1 0 0) ≡ 50188114247416807456 }
-    ensures old_digest { first_fault (bytes_of (take 2 (with_word 17 6) ++ digest_words tri ++ drop 6 (with_word 17 6))) ≡ Some (fault.Digest 0) }
+    ensures old_digest { first_fault (bytes_of (take 2 (with_word 17 6) ++ digest_words tri ++ drop 6 (with_word 17 6)))
+        ≡ Some (fault.Digest 0) }
     ensures no_components { count_fault (counts_with 1 3 2 0 0 0) ≡ Some (fault.Count 8 0) }
     ensures many_nodes { count_fault (counts_with 1 3 2 1 16777214 0) ≡ Some (fault.Count 9 16777214) }
     ensures as_many_regions { count_fault (counts_with 1 3 2 1 0 16777216) ≡ None }
     ensures many_regions { count_fault (counts_with 1 3 2 1 0 16777217) ≡ Some (fault.Count 10 16777217) }
     ensures many_edges { count_fault (counts_with 1 16777217 2 1 0 0) ≡ Some (fault.Count 6 16777217) }
     ensures many_tree_edges { count_fault (counts_with 1 3 4 1 0 0) ≡ Some (fault.Count 7 4) }
-    ensures many_node_pointers { count_fault (record (counts_with 1 3 2 1 0 0) { node_back = 4 }) ≡ Some (fault.Count 11 4) }
-    ensures many_edge_pointers { count_fault (record (counts_with 1 3 2 1 0 0) { node_back = 3; edge_back = 4 }) ≡ Some (fault.Count 12 4) }
-    ensures many_face_pointers { count_fault (record (counts_with 1 3 2 1 0 0) { edge_back = 3; face_back = 2 }) ≡ Some (fault.Count 13 2) }
-    ensures many_region_pointers { count_fault (record (counts_with 1 3 2 1 0 0) { face_back = 1; region_back = 1 }) ≡ Some (fault.Count 14 1) }
+    ensures many_node_pointers { count_fault (record (counts_with 1 3 2 1 0 0) { node_back = 4 })
+        ≡ Some (fault.Count 11 4) }
+    ensures many_edge_pointers { count_fault (record (counts_with 1 3 2 1 0 0) { node_back = 3; edge_back = 4 })
+        ≡ Some (fault.Count 12 4) }
+    ensures many_face_pointers { count_fault (record (counts_with 1 3 2 1 0 0) { edge_back = 3; face_back = 2 })
+        ≡ Some (fault.Count 13 2) }
+    ensures many_region_pointers { count_fault (record (counts_with 1 3 2 1 0 0) { face_back = 1; region_back = 1 })
+        ≡ Some (fault.Count 14 1) }
 {}
 
 /// One word of the triangle changed.

@@ -6,7 +6,8 @@ use Rattle.file_laws.specs.Held.{contents_of}
 use Rattle.file_laws.specs.Image.{image_of}
 use Rattle.file_laws.specs.Lawful.{StandsFor, is_lawful, map_of_file}
 
--- the one image of form 2 of what the old file holds: lawful, and its map is the old one's, so it stands for the same tables
+-- the one image of form 2 of what the old file holds: lawful, and its map is the old one's, so it stands for the same
+-- tables
 pub record IsUpgradeOf (old new : List ℕ) : Type 0 where
   pub is : new ≡ image_of 2 (contents_of (words_of old))
   pub form : (counts_in (words_of new)).form ≡ 2

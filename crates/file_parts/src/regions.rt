@@ -33,7 +33,8 @@ fn openings<C: Ledger>(
     regions: RegionView<'_>,
     steps: &mut Steps<C>,
 ) -> Result<Vec<usize>, AllocError>
-    ensures openings { IfOk result (λ openings. openings.items ≡ map (opening (regions_of regions.entry).bits) (range_with_len 0 (length (regions_of regions.entry).ids))) }
+    ensures openings { IfOk result (λ openings. openings.items ≡ map (opening (regions_of regions.entry).bits)
+        (range_with_len 0 (length (regions_of regions.entry).ids))) }
     ensures grows { steps.old ≤ steps.new }
 {
     let count = regions.count();

@@ -14,8 +14,8 @@ use pemb_file::{Served, write_image};
 use std::alloc::Global;
 use std::sync::ledger::Ledger;
 
-/// The file of form 2 that holds what an opened file of either form holds. It stands for the same map, whatever bytes the
-/// opened file has.
+/// The file of form 2 that holds what an opened file of either form holds. It stands for the same map, whatever bytes
+/// the opened file has.
 pub fn upgraded<C: Ledger>(
     alloc: Global,
     served: Served<'_>,
@@ -25,7 +25,8 @@ pub fn upgraded<C: Ledger>(
     ensures form { IfOk result (λ image. (counts_in (words_of image.items)).form ≡ 2) }
     ensures lawful { IfOk result (λ image. IsTrue (is_lawful image.items)) }
     ensures contents { IfOk result (λ image. contents_of (words_of image.items) ≡ contents_of_view served.entry) }
-    ensures upgrade { IfOk result (λ image. (old : List ℕ) → contents_of_view served.entry ≡ contents_of (words_of old) → IsUpgradeOf old image.items) }
+    ensures upgrade { IfOk result (λ image. (old : List ℕ) → contents_of_view served.entry ≡ contents_of (words_of old)
+        → IsUpgradeOf old image.items) }
     ensures grows { steps.old ≤ steps.new }
 {
     let parts = parts_of(alloc, served, steps)?;

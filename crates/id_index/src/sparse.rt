@@ -33,7 +33,8 @@ fn rising(alloc: Global, ids: &[IdNumber]) -> Result<Vec<Entry>, AllocError>
     requires { length ids.now < 2 ^ 32 }
     ensures same { IfOk result (λ entries. IsPermutation (numbered ids.now) entries.items) }
     ensures rising { IfOk result (λ entries. IsNonDecreasingBy (λ e. e.id) entries.items) }
-    ensures first { IfOk result (λ entries. (id : ℕ) → find (λ e. e.id == id) entries.items ≡ find (λ e. e.id == id) (numbered ids.now)) }
+    ensures first { IfOk result (λ entries. (id : ℕ) → find (λ e. e.id == id) entries.items
+        ≡ find (λ e. e.id == id) (numbered ids.now)) }
 {
     let mut entries = numbered(alloc, ids)?;
     entries.sort_by_key(|entry| entry.id)?;

@@ -19,7 +19,8 @@ use std::sync::ledger::Ledger;
 
 /// The first place whose id is out of range, or not above that of the place before.
 fn first_not_rising<C: Ledger>(ids: RisingIds<'_>, steps: &mut Steps<C>) -> Option<usize>
-    ensures place { result ≡ first_failing (is_rising (bound_in ids.entry) (id_in ids.entry)) (length (fields_of ids.entry.lows)) }
+    ensures place { result ≡ first_failing (is_rising (bound_in ids.entry) (id_in ids.entry))
+        (length (fields_of ids.entry.lows)) }
     ensures grows { steps.old ≤ steps.new }
     ensures cost { steps.new ≤ steps.old + length (counted ids.entry.high) + 2 * length (fields_of ids.entry.lows) }
 {
@@ -42,9 +43,11 @@ fn first_not_rising<C: Ledger>(ids: RisingIds<'_>, steps: &mut Steps<C>) -> Opti
 
 /// The first number that has no place, or to which the walk from its place does not come.
 fn first_by_walks<C: Ledger>(inverse: Inverse<'_>, steps: &mut Steps<C>) -> Option<usize>
-    ensures number { result ≡ first_failing (is_ordered (fields_of inverse.entry.places) (number_in inverse.entry)) (length (fields_of inverse.entry.places)) }
+    ensures number { result ≡ first_failing (is_ordered (fields_of inverse.entry.places) (number_in inverse.entry))
+        (length (fields_of inverse.entry.places)) }
     ensures grows { steps.old ≤ steps.new }
-    ensures cost { steps.new ≤ steps.old + length (fields_of inverse.entry.places) * (3 * digits (length (fields_of inverse.entry.places) + 2) + 16) }
+    ensures cost { steps.new ≤ steps.old + length (fields_of inverse.entry.places)
+        * (3 * digits (length (fields_of inverse.entry.places) + 2) + 16) }
 {
     let count = inverse.places.count();
     for number in 0..count {
@@ -59,9 +62,11 @@ fn first_by_walks<C: Ledger>(inverse: Inverse<'_>, steps: &mut Steps<C>) -> Opti
 /// The first number that has no place, or to which the walk from its place does not come. Where counts show that there
 /// is none, no walk is made.
 fn first_not_found<C: Ledger>(inverse: Inverse<'_>, steps: &mut Steps<C>) -> Option<usize>
-    ensures number { result ≡ first_failing (is_ordered (fields_of inverse.entry.places) (number_in inverse.entry)) (length (fields_of inverse.entry.places)) }
+    ensures number { result ≡ first_failing (is_ordered (fields_of inverse.entry.places) (number_in inverse.entry))
+        (length (fields_of inverse.entry.places)) }
     ensures grows { steps.old ≤ steps.new }
-    ensures cost { steps.new ≤ steps.old + length (fields_of inverse.entry.places) * (9 * digits (length (fields_of inverse.entry.places) + 2) + 31) }
+    ensures cost { steps.new ≤ steps.old + length (fields_of inverse.entry.places)
+        * (9 * digits (length (fields_of inverse.entry.places) + 2) + 31) }
 {
     if all_found(inverse, steps) {
         return None;
@@ -73,9 +78,11 @@ fn first_not_found<C: Ledger>(inverse: Inverse<'_>, steps: &mut Steps<C>) -> Opt
 /// back comes to the number. Err has the first fault, in the order of `NameFault`.
 pub fn check<C: Ledger>(parts: NameParts<'_>, steps: &mut Steps<C>) -> Result<(), NameFault>
     requires sizes { HasSizes parts }
-    ensures checked { MatchResult result (λ _. fault_of parts.entry ≡ None) (λ fault. fault_of parts.entry ≡ Some fault) }
+    ensures checked { MatchResult result (λ _. fault_of parts.entry ≡ None)
+        (λ fault. fault_of parts.entry ≡ Some fault) }
     ensures some_steps { steps.old + 1 ≤ steps.new }
-    ensures cost { steps.new ≤ steps.old + 64 * (digits (length (fields_of parts.entry.places) + 2) * (length (fields_of parts.entry.places) + 1)) }
+    ensures cost { steps.new ≤ steps.old + 64
+        * (digits (length (fields_of parts.entry.places) + 2) * (length (fields_of parts.entry.places) + 1)) }
 {
     if let Err(wrong) = check_counts(parts.high, parts.high_counts, steps) {
         return Err(NameFault::HighCounts { at: wrong.at });

@@ -33,7 +33,8 @@ fn mark(places: &[u32], stride: u32, first: u32, count: u32, marks: &mut [Option
     requires long { stride < count }
     requires count { count ≡ length (cycle places.now first) }
     requires size { length marks.old ≡ length places.now }
-    requires fresh { (i : ℕ) → i < length (cycle places.now first) → slice_index_or marks.old (slice_index (cycle places.now first) i) None ≡ None }
+    requires fresh { (i : ℕ) → i < length (cycle places.now first)
+        → slice_index_or marks.old (slice_index (cycle places.now first) i) None ≡ None }
     ensures { HavePointers stride (cycle places.now first) marks.old marks.new }
 {
     let mut last = first;
@@ -62,7 +63,8 @@ fn visit_and_mark(
     requires some { 1 ≤ stride }
     requires visited { length visited.old ≡ length places.now }
     requires size { length marks.old ≡ length places.now }
-    requires fresh { (i : ℕ) → i < length (cycle places.now first) → slice_index_or marks.old (slice_index (cycle places.now first) i) None ≡ None }
+    requires fresh { (i : ℕ) → i < length (cycle places.now first)
+        → slice_index_or marks.old (slice_index (cycle places.now first) i) None ≡ None }
     ensures visited { AreVisited (cycle places.now first) visited.old visited.new }
     ensures marks { HavePointers stride (cycle places.now first) marks.old marks.new }
 {

@@ -38,7 +38,8 @@ impl<'a> Inverse<'a> {
     /// The number that the walk from this place comes to.
     pub(crate) fn number<C: Ledger>(&self, place: usize, steps: &mut Steps<C>) -> Option<usize>
         ensures number { result ≡ number_in self.now place }
-        ensures found { IfSome result (λ number. (number < length (fields_of self.now.places)) × (slice_index (fields_of self.now.places) number ≡ place)) }
+        ensures found { IfSome result (λ number. (number < length (fields_of self.now.places))
+            × (slice_index (fields_of self.now.places) number ≡ place)) }
         ensures grows { steps.old ≤ steps.new }
         ensures cost { steps.new ≤ steps.old + 3 * digits (length (fields_of self.now.places) + 2) + 14 }
     {

@@ -9,16 +9,21 @@ ghost use Rattle.id_names.specs.Making.{made, places_of, rising, high_bits};
 
 /// The parts have the sizes that names ask for: `HasSizes` of what holds them.
 pub fn sizes_of_made()
-    ensures high { (low : ℕ) (ids : List ℕ) → ((k : ℕ) → k < length ids → slice_index ids k < 2 ^ (digits (length ids) + low)) → length (made low ids).high ≡ length ids + 2 ^ digits (length ids) }
+    ensures high { (low : ℕ) (ids : List ℕ)
+        → ((k : ℕ) → k < length ids → slice_index ids k < 2 ^ (digits (length ids) + low))
+        → length (made low ids).high ≡ length ids + 2 ^ digits (length ids) }
     ensures lows { (low : ℕ) (ids : List ℕ) → length (made low ids).lows ≡ length ids }
     ensures places { (low : ℕ) (ids : List ℕ) → length (made low ids).places ≡ length ids }
     ensures marks { (low : ℕ) (ids : List ℕ) → length (made low ids).marks ≡ length ids }
-    ensures back { (low : ℕ) (ids : List ℕ) → rank true (made low ids).marks (length (made low ids).marks) ≡ length (made low ids).back }
+    ensures back { (low : ℕ) (ids : List ℕ)
+        → rank true (made low ids).marks (length (made low ids).marks) ≡ length (made low ids).back }
 {}
 
 /// In a permutation whose long cycles are marked, the walk from the place of each number comes to it.
 pub fn walks_in_cycles()
-    ensures { (places : List ℕ) → IsPlacePermutation places → (k : ℕ) → k < length places → number_at places (marked places (stride (length places))) (back_pointers places (stride (length places))) (slice_index places k) ≡ Some k }
+    ensures { (places : List ℕ) → IsPlacePermutation places → (k : ℕ) → k < length places
+        → number_at places (marked places (stride (length places))) (back_pointers places (stride (length places)))
+        (slice_index places k) ≡ Some k }
 {}
 
 /// What is made of a few ids, by hand.

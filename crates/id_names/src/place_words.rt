@@ -50,11 +50,16 @@ fn some_pointers(alloc: Global, pointers: &[Option<u32>]) -> Result<Vec<u32>, Al
 pub(crate) fn place_words(alloc: Global, places: &[u32]) -> Result<PlaceWords, Memory>
     requires few { length places.now ≤ 16777216 }
     requires places { IsPlacePermutation places.now }
-    ensures places { IfOk result (λ words. HoldsFields words.places.items (place_width (length places.now)) places.now) }
-    ensures marks { IfOk result (λ words. HoldsBits words.marks.items (marked places.now (stride (length places.now)))) }
-    ensures mark_counts { IfOk result (λ words. HoldsFields words.mark_counts.items 32 (counts_of (marked places.now (stride (length places.now))))) }
-    ensures back { IfOk result (λ words. HoldsFields words.back.items (place_width (length places.now)) (back_pointers places.now (stride (length places.now)))) }
-    ensures marked { IfOk result (λ words. words.marked ≡ length (back_pointers places.now (stride (length places.now)))) }
+    ensures places { IfOk result (λ words. HoldsFields words.places.items
+        (place_width (length places.now)) places.now) }
+    ensures marks { IfOk result (λ words. HoldsBits words.marks.items
+        (marked places.now (stride (length places.now)))) }
+    ensures mark_counts { IfOk result (λ words. HoldsFields words.mark_counts.items 32
+        (counts_of (marked places.now (stride (length places.now))))) }
+    ensures back { IfOk result (λ words. HoldsFields words.back.items (place_width (length places.now))
+        (back_pointers places.now (stride (length places.now)))) }
+    ensures marked { IfOk result (λ words. words.marked ≡ length (back_pointers places.now
+        (stride (length places.now)))) }
 {
     let width = binary_digits(places.len()).max(1);
     let stride = binary_digits(places.len() + 2);

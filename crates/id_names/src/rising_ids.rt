@@ -67,7 +67,8 @@ impl<'a> RisingIds<'a> {
     fn below<C: Ledger>(&self, high: usize, steps: &mut Steps<C>) -> usize
         ensures within { result ≤ length (fields_of self.now.lows) }
         ensures below { (k : ℕ) → k < result → high_part (counted self.now.high) k < high }
-        ensures above { (k : ℕ) → result ≤ k → k < length (fields_of self.now.lows) → high ≤ high_part (counted self.now.high) k }
+        ensures above { (k : ℕ) → result ≤ k → k < length (fields_of self.now.lows)
+            → high ≤ high_part (counted self.now.high) k }
         ensures grows { steps.old ≤ steps.new }
         ensures cost { steps.new ≤ steps.old + 3 * digits (length (fields_of self.now.lows) + 2) + 16 }
     {

@@ -94,7 +94,8 @@ pub(crate) fn rising_words(
     requires some { 1 ≤ low }
     requires narrow { digits (length ids.now) + low ≤ 63 }
     ensures high { IfOk result (λ words. HoldsBits words.high.items (high_bits low ids.now)) }
-    ensures high_counts { IfOk result (λ words. HoldsFields words.high_counts.items 32 (counts_of (high_bits low ids.now))) }
+    ensures high_counts { IfOk result (λ words. HoldsFields words.high_counts.items 32
+        (counts_of (high_bits low ids.now))) }
     ensures lows { IfOk result (λ words. HoldsFields words.lows.items low (low_parts low ids.now)) }
 {
     let high = high_parts(alloc, ids, entries, low)?;

@@ -22,7 +22,8 @@ pub struct NamesView<'a> {
     ids: RisingIds<'a>,
     inverse: Inverse<'a>,
     ghost count: { length (fields_of ids.lows) ≡ length (fields_of inverse.places) },
-    ghost right: { name_fault (names_over ids inverse) (counts_of (counted ids.high)) (counts_of (counted inverse.marks)) ≡ None },
+    ghost right: { name_fault (names_over ids inverse) (counts_of (counted ids.high))
+        (counts_of (counted inverse.marks)) ≡ None },
 }
 
 impl<'a> NamesView<'a> {
@@ -65,7 +66,8 @@ impl<'a> NamesView<'a> {
         ensures few { result ≤ 16777216 }
         ensures names { AreDistinctIds (id_bound (names_in self.now)) (ids_of self.now) }
         ensures narrow { id_bound (names_in self.now) ≤ 2 ^ 63 }
-        ensures rising { (i j : ℕ) → i < j → j < length (ids_of self.now) → id_at (names_in self.now) i < id_at (names_in self.now) j }
+        ensures rising { (i j : ℕ) → i < j → j < length (ids_of self.now)
+            → id_at (names_in self.now) i < id_at (names_in self.now) j }
     {
         self.inverse.places.count()
     }
@@ -108,7 +110,8 @@ impl<'a> NamesView<'a> {
 
     /// The place of the list at which this id stands, or None where it stands at none.
     fn place_of<C: Ledger>(&self, id: IdNumber, steps: &mut Steps<C>) -> Option<usize>
-        ensures place { MatchOption result ((k : ℕ) → k < length (ids_of self.now) → id_at (names_in self.now) k ≢ id) (λ place. (place < length (ids_of self.now)) × (id_at (names_in self.now) place ≡ id)) }
+        ensures place { MatchOption result ((k : ℕ) → k < length (ids_of self.now) → id_at (names_in self.now) k ≢ id)
+            (λ place. (place < length (ids_of self.now)) × (id_at (names_in self.now) place ≡ id)) }
         ensures grows { steps.old ≤ steps.new }
         ensures cost { steps.new ≤ steps.old + 8 * digits (length (ids_of self.now) + 2) + 32 }
     {
@@ -130,7 +133,9 @@ impl<'a> NamesView<'a> {
     /// The number that has this id, or None where no number has it.
     pub fn number_of<C: Ledger>(&self, id: IdNumber, steps: &mut Steps<C>) -> Option<usize>
         ensures number { result ≡ number_of (ids_of self.now) id }
-        ensures found { MatchOption result ((k : ℕ) → k < length (ids_of self.now) → slice_index (ids_of self.now) k ≢ id) (λ number. (number < length (ids_of self.now)) × (slice_index (ids_of self.now) number ≡ id)) }
+        ensures found { MatchOption result ((k : ℕ) → k < length (ids_of self.now)
+            → slice_index (ids_of self.now) k ≢ id) (λ number. (number < length (ids_of self.now))
+            × (slice_index (ids_of self.now) number ≡ id)) }
         ensures grows { steps.old ≤ steps.new }
         ensures cost { steps.new ≤ steps.old + 12 * digits (length (ids_of self.now) + 2) + 60 }
     {

@@ -33,7 +33,8 @@ fn pointer<C: Ledger>(inverse: Inverse<'_>, number: usize, steps: &mut Steps<C>)
 /// to another number, or is too far away.
 fn way<C: Ledger>(inverse: Inverse<'_>, mark: usize, steps: &mut Steps<C>) -> Option<usize>
     requires within { mark < length (fields_of inverse.places) }
-    ensures way { IfSome result (λ count. 1 ≤ count → IsWay (fields_of inverse.entry.places) (counted inverse.entry.marks) (fields_of inverse.entry.back) mark count) }
+    ensures way { IfSome result (λ count. 1 ≤ count → IsWay (fields_of inverse.entry.places)
+        (counted inverse.entry.marks) (fields_of inverse.entry.back) mark count) }
     ensures few { IfSome result (λ count. count ≤ 64) }
     ensures grows { steps.old ≤ steps.new }
     ensures cost { steps.new ≤ steps.old + 3 * digits (length (fields_of inverse.entry.places) + 2) + 12 }
@@ -62,7 +63,8 @@ fn way<C: Ledger>(inverse: Inverse<'_>, mark: usize, steps: &mut Steps<C>) -> Op
 /// the cycle, None where neither comes soon.
 fn short_cycle<C: Ledger>(inverse: Inverse<'_>, least: usize, steps: &mut Steps<C>) -> Option<usize>
     requires within { least < length (fields_of inverse.places) }
-    ensures cycle { IfSome result (λ count. 1 ≤ count → IsShortCycle (fields_of inverse.entry.places) (counted inverse.entry.marks) least count) }
+    ensures cycle { IfSome result (λ count. 1 ≤ count → IsShortCycle (fields_of inverse.entry.places)
+        (counted inverse.entry.marks) least count) }
     ensures few { IfSome result (λ count. count ≤ 65) }
     ensures grows { steps.old ≤ steps.new }
     ensures cost { steps.new ≤ steps.old + 3 * digits (length (fields_of inverse.entry.places) + 2) + 3 }
@@ -89,10 +91,12 @@ fn short_cycle<C: Ledger>(inverse: Inverse<'_>, least: usize, steps: &mut Steps<
 
 /// How many places are on ways from marks, or None where one of these isn't right.
 fn on_ways<C: Ledger>(inverse: Inverse<'_>, steps: &mut Steps<C>) -> Option<usize>
-    ensures many { IfSome result (λ count. AreMany (IsOnWay (fields_of inverse.entry.places) (counted inverse.entry.marks) (fields_of inverse.entry.back) (length (fields_of inverse.entry.places))) count) }
+    ensures many { IfSome result (λ count. AreMany (IsOnWay (fields_of inverse.entry.places)
+        (counted inverse.entry.marks) (fields_of inverse.entry.back) (length (fields_of inverse.entry.places))) count) }
     ensures few { IfSome result (λ count. count ≤ 64 * length (fields_of inverse.entry.places)) }
     ensures grows { steps.old ≤ steps.new }
-    ensures cost { steps.new ≤ steps.old + length (fields_of inverse.entry.places) * (3 * digits (length (fields_of inverse.entry.places) + 2) + 12) }
+    ensures cost { steps.new ≤ steps.old + length (fields_of inverse.entry.places)
+        * (3 * digits (length (fields_of inverse.entry.places) + 2) + 12) }
 {
     let mut count = 0;
     for mark in 0..inverse.places.count() {
@@ -103,10 +107,12 @@ fn on_ways<C: Ledger>(inverse: Inverse<'_>, steps: &mut Steps<C>) -> Option<usiz
 
 /// How many places are in short cycles without a mark, or None where one of these isn't right.
 fn on_cycles<C: Ledger>(inverse: Inverse<'_>, steps: &mut Steps<C>) -> Option<usize>
-    ensures many { IfSome result (λ count. AreMany (IsOnCycle (fields_of inverse.entry.places) (counted inverse.entry.marks) (fields_of inverse.entry.back) (length (fields_of inverse.entry.places))) count) }
+    ensures many { IfSome result (λ count. AreMany (IsOnCycle (fields_of inverse.entry.places)
+        (counted inverse.entry.marks) (fields_of inverse.entry.back) (length (fields_of inverse.entry.places))) count) }
     ensures few { IfSome result (λ count. count ≤ 65 * length (fields_of inverse.entry.places)) }
     ensures grows { steps.old ≤ steps.new }
-    ensures cost { steps.new ≤ steps.old + length (fields_of inverse.entry.places) * (3 * digits (length (fields_of inverse.entry.places) + 2) + 3) }
+    ensures cost { steps.new ≤ steps.old + length (fields_of inverse.entry.places)
+        * (3 * digits (length (fields_of inverse.entry.places) + 2) + 3) }
 {
     let mut count = 0;
     for least in 0..inverse.places.count() {
@@ -118,9 +124,11 @@ fn on_cycles<C: Ledger>(inverse: Inverse<'_>, steps: &mut Steps<C>) -> Option<us
 /// Whether the counts show that the walk from the place of each number comes to it. They are meant to for all that
 /// `make` makes, which no contract says: where they don't, the walks themselves decide.
 pub(crate) fn all_found<C: Ledger>(inverse: Inverse<'_>, steps: &mut Steps<C>) -> bool
-    ensures all { result ≡ true → first_failing (is_ordered (fields_of inverse.entry.places) (number_in inverse.entry)) (length (fields_of inverse.entry.places)) ≡ None }
+    ensures all { result ≡ true → first_failing (is_ordered (fields_of inverse.entry.places) (number_in inverse.entry))
+        (length (fields_of inverse.entry.places)) ≡ None }
     ensures grows { steps.old ≤ steps.new }
-    ensures cost { steps.new ≤ steps.old + length (fields_of inverse.entry.places) * (6 * digits (length (fields_of inverse.entry.places) + 2) + 15) }
+    ensures cost { steps.new ≤ steps.old + length (fields_of inverse.entry.places)
+        * (6 * digits (length (fields_of inverse.entry.places) + 2) + 15) }
 {
     let Some(ways) = on_ways(inverse, steps) else {
         return false;

@@ -18,7 +18,8 @@ pub fn three_names()
 /// Four names in one cycle, with marks and a pointer back from each.
 pub fn names_in_a_cycle()
     ensures ids { ids_by_number one_cycle ≡ 2 ∷ 3 ∷ 4 ∷ 1 ∷ [] }
-    ensures found { map (number_of (ids_by_number one_cycle)) (1 ∷ 2 ∷ 4 ∷ 5 ∷ []) ≡ Some 3 ∷ Some 0 ∷ Some 2 ∷ None ∷ [] }
+    ensures found { map (number_of (ids_by_number one_cycle)) (1 ∷ 2 ∷ 4 ∷ 5 ∷ [])
+        ≡ Some 3 ∷ Some 0 ∷ Some 2 ∷ None ∷ [] }
     ensures inverse { map (number_at one_cycle) (0 ∷ 1 ∷ 2 ∷ 3 ∷ []) ≡ Some 3 ∷ Some 0 ∷ Some 1 ∷ Some 2 ∷ [] }
     ensures right { name_fault one_cycle (directory (4 * 2 ^ 32)) (directory (2 * 2 ^ 32)) ≡ None }
 {}

@@ -14,7 +14,8 @@ use Rattle.islands.specs.Numbered.{AreRingNumbers, AreBelow}
 use Rattle.islands.specs.Placed.{map_with_faces, rows_with_faces}
 use Rattle.islands.specs.Rounds.{is_marked}
 
--- the rings and components of the map by their smallest darts, the ids of its faces, and the numbers of each ring's face and component
+-- the rings and components of the map by their smallest darts, the ids of its faces, and the numbers of each ring's
+-- face and component
 pub record IsNumberedMap (r : RotationRows) (faces : List FaceRow) (numbers : Numbers) (n : NumberedMap) : Type 0 where
   pub system : IsLabelledRotation (rows_with_faces r faces)
   pub of_components : ArePartNumbers r.edges (component (map_with_faces r faces)) numbers

@@ -1,4 +1,5 @@
--- A round over numbered rings, faces and components: the rings through which components are reached, and the faces beside them.
+-- A round over numbered rings, faces and components: the rings through which components are reached, and the faces
+-- beside them.
 use Rattle.std.specs.Prelude.{◌≡◌, ◌<◌, ◌⊎◌, ℕ, Bool, true, false, not, IsTrue, List, [], ◌∷◌, flat_map, length, slice_index, slice_index_or}
 use Rattle.std.specs.List.{filter}
 use Rattle.plane_model.specs.Sets.{has}

@@ -38,9 +38,11 @@ fn collect(
     front: &[u32],
 ) -> Result<Vec<u32>, AllocError>
     requires front { (k : ℕ) → k < length front.now → slice_index front.now k < length lists.now }
-    requires rings { (f k : ℕ) → let rings = listed (map (λ v. v.items) lists.now) f in k < length rings → slice_index rings k < length components.now }
+    requires rings { (f k : ℕ) → let rings = listed (map (λ v. v.items) lists.now) f in k < length rings
+        → slice_index rings k < length components.now }
     requires components { (i : ℕ) → i < length components.now → slice_index components.now i < length reached.now }
-    ensures { IfOk result (λ now. now.items ≡ fresh_on components.now reached.now (map (λ v. v.items) lists.now) front.now) }
+    ensures { IfOk result (λ now. now.items ≡ fresh_on components.now reached.now
+        (map (λ v. v.items) lists.now) front.now) }
 {
     let mut now: Vec<u32> = Vec::new(alloc);
     for f in front {
@@ -70,9 +72,11 @@ pub fn round_rings(
     front: &[u32],
 ) -> Result<Vec<u32>, AllocError>
     requires front { (k : ℕ) → k < length front.now → slice_index front.now k < length on_face.now }
-    requires rings { (f k : ℕ) → let rings = listed (map (λ v. v.items) on_face.now) f in k < length rings → slice_index rings k < length components.now }
+    requires rings { (f k : ℕ) → let rings = listed (map (λ v. v.items) on_face.now) f in k < length rings
+        → slice_index rings k < length components.now }
     requires components { (i : ℕ) → i < length components.now → slice_index components.now i < length reached.now }
-    ensures { IfOk result (λ now. (faces : List ℕ) → AreLists faces (map (λ v. v.items) on_face.now) → AreRoundRings faces components.now front.now reached.now now.items) }
+    ensures { IfOk result (λ now. (faces : List ℕ) → AreLists faces (map (λ v. v.items) on_face.now)
+        → AreRoundRings faces components.now front.now reached.now now.items) }
 {
     let found = collect(alloc, on_face, components, reached, front)?;
     Ok(rising(found))

@@ -16,7 +16,8 @@ fn open(
 ) -> Result<(), AllocError>
     requires rings { (k : ℕ) → k < length rings.now → slice_index rings.now k < length faces.now }
     requires faces { (i : ℕ) → i < length faces.now → slice_index faces.now i < length entered.old.items }
-    ensures { OnOk result (AreAllEntered faces.now rings.now entered.old.items entered.new.items next.old.items next.new.items) }
+    ensures { OnOk result (AreAllEntered faces.now rings.now entered.old.items entered.new.items next.old.items
+        next.new.items) }
 {
     for q in rings {
         let face = faces[*q as usize];
@@ -41,12 +42,15 @@ pub fn enter(
     requires same { length components.now ≡ length faces.now }
     requires listed { length in_component.now ≡ length reached.old.items }
     requires places { (k : ℕ) → k < length now.now → slice_index now.now k < length components.now }
-    requires components { (i : ℕ) → i < length components.now → slice_index components.now i < length reached.old.items }
+    requires components { (i : ℕ) → i < length components.now
+        → slice_index components.now i < length reached.old.items }
     requires faces { (i : ℕ) → i < length faces.now → slice_index faces.now i < length entered.old.items }
     requires lists { AreLists components.now (map (λ v. v.items) in_component.now) }
-    requires fresh { (i : ℕ) → IsTrue (has now.now i) → slice_index_or reached.old.items (slice_index components.now i) false ≡ false }
+    requires fresh { (i : ℕ) → IsTrue (has now.now i)
+        → slice_index_or reached.old.items (slice_index components.now i) false ≡ false }
     ensures next { IfOk result (λ next. AreNextFaces faces.now components.now now.now entered.old.items next.items) }
-    ensures reached { IfOk result (λ next. KeysAreMarked (slice_index components.now) now.now reached.old.items reached.new.items) }
+    ensures reached { IfOk result (λ next. KeysAreMarked (slice_index components.now) now.now reached.old.items
+        reached.new.items) }
     ensures entered { IfOk result (λ next. KeysAreMarked (λ f. f) next.items entered.old.items entered.new.items) }
 {
     let mut next: Vec<u32> = Vec::new(alloc);

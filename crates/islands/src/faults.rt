@@ -54,8 +54,11 @@ fn first_unreached(
 ) -> Option<Refusal>
     requires within { (k : ℕ) → k < length darts.now → slice_index darts.now k < 2 * length rotation.now.edges }
     requires numbers { (k : ℕ) → k < length darts.now → slice_index darts.now k < length parts.now.components.of_darts }
-    requires below { (k : ℕ) → k < length darts.now → slice_index parts.now.components.of_darts (slice_index darts.now k) < length reached.now }
-    ensures { (m : PlaneMap) → map (signed_edge rotation.now.edges) darts.now ≡ components m → AreReachedMarked m rotation.now.edges (slice_index parts.now.components.of_darts) darts.now reached.now → result ≡ unplaced m }
+    requires below { (k : ℕ) → k < length darts.now
+        → slice_index parts.now.components.of_darts (slice_index darts.now k) < length reached.now }
+    ensures { (m : PlaneMap) → map (signed_edge rotation.now.edges) darts.now ≡ components m
+        → AreReachedMarked m rotation.now.edges (slice_index parts.now.components.of_darts) darts.now reached.now
+        → result ≡ unplaced m }
 {
     for dart in darts {
         if !reached[parts.component_of(*dart) as usize] {
@@ -105,7 +108,10 @@ pub fn first_fault(
 ) -> Result<Option<Refusal>, AllocError>
     requires numbered { (faces : List FaceRow) × IsNumberedMap rotation.now faces parts.now.components numbered.now }
     requires starts { (s : ℕ) → IsTrue (has starts.now s) → s < length numbered.now.face_of.items }
-    ensures { IfOk result (λ fault. (faces : List FaceRow) → IsNumberedMap rotation.now faces parts.now.components numbered.now → map (ring_at (map_with_faces rotation.now faces)) starts.now ≡ outer_rings (map_with_faces rotation.now faces) → fault ≡ placement_fault (map_with_faces rotation.now faces)) }
+    ensures { IfOk result (λ fault. (faces : List FaceRow) → IsNumberedMap rotation.now faces parts.now.components
+        numbered.now → map (ring_at (map_with_faces rotation.now faces)) starts.now
+        ≡ outer_rings (map_with_faces rotation.now faces)
+        → fault ≡ placement_fault (map_with_faces rotation.now faces)) }
 {
     let count = parts.components() as usize;
     let reached = marks(

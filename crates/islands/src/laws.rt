@@ -14,5 +14,6 @@ pub fn other_tables()
     ensures asked { (t : Rows) → IsTrue (is_rotation_system t) → AreFacesOf (rotation_rows t) t.faces }
     ensures placed { (t : Rows) → is_placed (map_with_faces (rotation_rows t) t.faces) ≡ is_placed (map_of t) }
     ensures outer { (t : Rows) → outer_rings (map_with_faces (rotation_rows t) t.faces) ≡ outer_rings (map_of t) }
-    ensures fault { (t : Rows) → placement_fault (map_with_faces (rotation_rows t) t.faces) ≡ placement_fault (map_of t) }
+    ensures fault { (t : Rows) → placement_fault (map_with_faces (rotation_rows t) t.faces)
+        ≡ placement_fault (map_of t) }
 {}

@@ -44,10 +44,13 @@ pub fn least_darts(
     parts: &Parts,
 ) -> Result<LeastDarts, AllocError>
     requires rings { ArePartNumbers rotation.now.edges (ring (map_of_rotation rotation.now)) parts.now.rings }
-    requires components { ArePartNumbers rotation.now.edges (component (map_of_rotation rotation.now)) parts.now.components }
+    requires components { ArePartNumbers rotation.now.edges (component (map_of_rotation rotation.now))
+        parts.now.components }
     ensures rotation { OnOk result (IsRotation rotation.now) }
-    ensures rings { IfOk result (λ least. AreDartsOf rotation.now.edges (rings (map_of_rotation rotation.now)) least.rings.items) }
-    ensures components { IfOk result (λ least. AreDartsOf rotation.now.edges (components (map_of_rotation rotation.now)) least.components.items) }
+    ensures rings { IfOk result (λ least. AreDartsOf rotation.now.edges
+        (rings (map_of_rotation rotation.now)) least.rings.items) }
+    ensures components { IfOk result (λ least. AreDartsOf rotation.now.edges
+        (components (map_of_rotation rotation.now)) least.components.items) }
 {
     let darts = rising_darts(alloc, rotation)?;
     let mut seen_rings = vec![in alloc; false; parts.rings() as usize]?;

@@ -71,10 +71,15 @@ fn face_numbers(
     requires few { length ids.now ≤ 2 ^ 32 }
     requires rising { IsTrue (is_strictly_rising ids.now) }
     requires within { (k : ℕ) → k < length darts.now → slice_index darts.now k < 2 * length rotation.now.edges }
-    requires there { (k : ℕ) → k < length darts.now → IsTrue (has ids.now (side (map_of_rotation rotation.now) (signed_edge rotation.now.edges (slice_index darts.now k)))) }
+    requires there { (k : ℕ) → k < length darts.now
+        → IsTrue (has ids.now (side (map_of_rotation rotation.now)
+        (signed_edge rotation.now.edges (slice_index darts.now k)))) }
     ensures many { IfOk result (λ numbers. length numbers.items ≡ length darts.now) }
-    ensures below { IfOk result (λ numbers. (k : ℕ) → k < length numbers.items → slice_index numbers.items k < length ids.now) }
-    ensures sides { IfOk result (λ numbers. (k : ℕ) → k < length numbers.items → slice_index ids.now (slice_index numbers.items k) ≡ side (map_of_rotation rotation.now) (signed_edge rotation.now.edges (slice_index darts.now k))) }
+    ensures below { IfOk result (λ numbers. (k : ℕ) → k < length numbers.items
+        → slice_index numbers.items k < length ids.now) }
+    ensures sides { IfOk result (λ numbers. (k : ℕ) → k < length numbers.items
+        → slice_index ids.now (slice_index numbers.items k)
+        ≡ side (map_of_rotation rotation.now) (signed_edge rotation.now.edges (slice_index darts.now k))) }
 {
     let mut numbers = Vec::new(alloc);
     for dart in darts {
@@ -104,7 +109,8 @@ pub fn number_map(
     faces: &[FaceRow],
 ) -> Result<NumberedMap, AllocError>
     requires rings { ArePartNumbers rotation.now.edges (ring (map_of_rotation rotation.now)) parts.now.rings }
-    requires components { ArePartNumbers rotation.now.edges (component (map_of_rotation rotation.now)) parts.now.components }
+    requires components { ArePartNumbers rotation.now.edges (component (map_of_rotation rotation.now))
+        parts.now.components }
     requires labelled { IsTrue (is_labelled (map_of_rotation rotation.now)) }
     requires faces { AreFacesOf rotation.now faces.now }
     ensures { IfOk result (IsNumberedMap rotation.now faces.now parts.now.components) }

@@ -34,7 +34,8 @@ fn places(
     requires rings { (k : ℕ) → k < length rings.now → slice_index rings.now k < 2 * length rotation.now.edges }
     requires starts { (k : ℕ) → k < length starts.now → slice_index starts.now k < length rings.now }
     ensures starts { IfOk result (λ p. p.starts ≡ map (slice_index rings.now) starts.now) }
-    ensures faces { IfOk result (λ p. p.faces ≡ map (λ dart. side (map_of_rotation rotation.now) (signed_edge rotation.now.edges dart)) p.starts) }
+    ensures faces { IfOk result (λ p. p.faces ≡ map (λ dart. side (map_of_rotation rotation.now)
+        (signed_edge rotation.now.edges dart)) p.starts) }
 {
     let mut darts = Vec::new(alloc);
     let mut faces = Vec::new(alloc);
@@ -55,15 +56,19 @@ pub fn place(
     faces: &[FaceRow],
 ) -> Result<Placement, CheckFault>
     requires rings { ArePartNumbers rotation.now.edges (ring (map_of_rotation rotation.now)) parts.now.rings }
-    requires components { ArePartNumbers rotation.now.edges (component (map_of_rotation rotation.now)) parts.now.components }
+    requires components { ArePartNumbers rotation.now.edges (component (map_of_rotation rotation.now))
+        parts.now.components }
     requires labelled { IsTrue (is_labelled (map_of_rotation rotation.now)) }
     requires faces { AreFacesOf rotation.now faces.now }
     ensures placed { OnOk result (IsTrue (is_placed (map_with_faces rotation.now faces.now))) }
     ensures fine { OnOk result (placement_fault (map_with_faces rotation.now faces.now) ≡ None) }
-    ensures starts { IfOk result (λ p. AreDartsOf rotation.now.edges (outer_rings (map_with_faces rotation.now faces.now)) p.starts) }
-    ensures containing { IfOk result (λ p. p.faces ≡ map (side (map_with_faces rotation.now faces.now)) (outer_rings (map_with_faces rotation.now faces.now))) }
+    ensures starts { IfOk result (λ p. AreDartsOf rotation.now.edges
+        (outer_rings (map_with_faces rotation.now faces.now)) p.starts) }
+    ensures containing { IfOk result (λ p. p.faces ≡ map (side (map_with_faces rotation.now faces.now))
+        (outer_rings (map_with_faces rotation.now faces.now))) }
     ensures refused { IfErr result (λ e. Names e (placement_fault (map_with_faces rotation.now faces.now))) }
-    ensures exactly { is_none (placement_fault (map_with_faces rotation.now faces.now)) ≡ is_placed (map_with_faces rotation.now faces.now) }
+    ensures exactly { is_none (placement_fault (map_with_faces rotation.now faces.now))
+        ≡ is_placed (map_with_faces rotation.now faces.now) }
 {
     let map = number_map(alloc, rotation, parts, faces)?;
     let starts = outer_rings(

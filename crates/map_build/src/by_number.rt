@@ -18,9 +18,12 @@ pub(crate) fn edge_ids(
 ) -> Result<Vec<IdNumber>, AllocError>
     requires darts { (p : ℕ) → p < length darts.now → slice_index darts.now p < 2 * length edges.now }
     requires many { length numbers.now ≡ length darts.now }
-    requires agree { (ids : List ℕ) × (length ids ≡ length edges.now) × StandByNumber 0 (slice_index numbers.now) (λ p. (row_at edges.now (slice_index darts.now p)).id) (λ _. true) (length darts.now) ids }
+    requires agree { (ids : List ℕ) × (length ids ≡ length edges.now)
+        × StandByNumber 0 (slice_index numbers.now) (λ p. (row_at edges.now (slice_index darts.now p)).id) (λ _. true)
+        (length darts.now) ids }
     ensures len { IfOk result (λ ids. length ids.items ≡ length edges.now) }
-    ensures ids { IfOk result (λ ids. StandByNumber 0 (slice_index numbers.now) (λ p. (row_at edges.now (slice_index darts.now p)).id) (λ _. true) (length darts.now) ids.items) }
+    ensures ids { IfOk result (λ ids. StandByNumber 0 (slice_index numbers.now)
+        (λ p. (row_at edges.now (slice_index darts.now p)).id) (λ _. true) (length darts.now) ids.items) }
 {
     let mut ids = vec![in alloc; 0; edges.len()]?;
     for p in 0..darts.len() {
@@ -39,9 +42,13 @@ pub(crate) fn directions(
 ) -> Result<Vec<bool>, AllocError>
     requires flags { length first.now ≡ length darts.now }
     requires many { length numbers.now ≡ length darts.now }
-    requires agree { (forward : List Bool) × (length forward ≡ count) × StandByNumber false (slice_index numbers.now) (λ p. slice_index darts.now p % 2 == 0) (λ p. slice_index_or first.now p false) (length darts.now) forward }
+    requires agree { (forward : List Bool) × (length forward ≡ count)
+        × StandByNumber false (slice_index numbers.now) (λ p. slice_index darts.now p % 2 == 0)
+        (λ p. slice_index_or first.now p false) (length darts.now) forward }
     ensures len { IfOk result (λ forward. length forward.items ≡ count) }
-    ensures forward { IfOk result (λ forward. StandByNumber false (slice_index numbers.now) (λ p. slice_index darts.now p % 2 == 0) (λ p. slice_index_or first.now p false) (length darts.now) forward.items) }
+    ensures forward { IfOk result (λ forward. StandByNumber false (slice_index numbers.now)
+        (λ p. slice_index darts.now p % 2 == 0) (λ p. slice_index_or first.now p false)
+        (length darts.now) forward.items) }
 {
     let mut forward = vec![in alloc; false; count]?;
     for p in 0..darts.len() {
@@ -62,9 +69,12 @@ pub(crate) fn node_ids(
 ) -> Result<Vec<IdNumber>, AllocError>
     requires darts { (p : ℕ) → p < length darts.now → slice_index darts.now p < 2 * length edges.now }
     requires many { length numbers.now ≡ length darts.now }
-    requires agree { (ids : List ℕ) × (length ids ≡ count) × StandByNumber 0 (slice_index numbers.now) (λ p. start_of_dart edges.now (slice_index darts.now p)) (λ _. true) (length darts.now) ids }
+    requires agree { (ids : List ℕ) × (length ids ≡ count)
+        × StandByNumber 0 (slice_index numbers.now) (λ p. start_of_dart edges.now (slice_index darts.now p)) (λ _. true)
+        (length darts.now) ids }
     ensures len { IfOk result (λ ids. length ids.items ≡ count) }
-    ensures ids { IfOk result (λ ids. StandByNumber 0 (slice_index numbers.now) (λ p. start_of_dart edges.now (slice_index darts.now p)) (λ _. true) (length darts.now) ids.items) }
+    ensures ids { IfOk result (λ ids. StandByNumber 0 (slice_index numbers.now)
+        (λ p. start_of_dart edges.now (slice_index darts.now p)) (λ _. true) (length darts.now) ids.items) }
 {
     let mut ids = vec![in alloc; 0; count]?;
     for p in 0..darts.len() {
@@ -83,9 +93,13 @@ pub(crate) fn face_ids(
 ) -> Result<Vec<IdNumber>, AllocError>
     requires darts { (p : ℕ) → p < length darts.now → slice_index darts.now p < 2 * length edges.now }
     requires many { length rings.now ≡ length darts.now }
-    requires agree { (ids : List ℕ) × (length ids ≡ count) × StandByNumber 0 (λ p. slice_index rings.now p - 1) (λ p. face_of_dart edges.now (slice_index darts.now p)) (λ p. nat_lt 0 (slice_index rings.now p)) (length darts.now) ids }
+    requires agree { (ids : List ℕ) × (length ids ≡ count)
+        × StandByNumber 0 (λ p. slice_index rings.now p - 1) (λ p. face_of_dart edges.now (slice_index darts.now p))
+        (λ p. nat_lt 0 (slice_index rings.now p)) (length darts.now) ids }
     ensures len { IfOk result (λ ids. length ids.items ≡ count) }
-    ensures ids { IfOk result (λ ids. StandByNumber 0 (λ p. slice_index rings.now p - 1) (λ p. face_of_dart edges.now (slice_index darts.now p)) (λ p. nat_lt 0 (slice_index rings.now p)) (length darts.now) ids.items) }
+    ensures ids { IfOk result (λ ids. StandByNumber 0 (λ p. slice_index rings.now p - 1)
+        (λ p. face_of_dart edges.now (slice_index darts.now p)) (λ p. nat_lt 0 (slice_index rings.now p))
+        (length darts.now) ids.items) }
 {
     let mut ids = vec![in alloc; 0; count]?;
     for p in 0..darts.len() {

@@ -45,7 +45,8 @@ fn place_components(
     requires edges { rotation.now.edges ≡ (rows_of tables.now).edges }
     ensures consistent { OnOk result (IsTrue (is_consistent (without_regions (rows_of tables.now)))) }
     ensures starts { IfOk result (λ p. AreOuterDarts (rows_of tables.now) p.starts) }
-    ensures faces { IfOk result (λ p. p.faces ≡ map (side (map_of (rows_of tables.now))) (outer_rings (map_of (rows_of tables.now)))) }
+    ensures faces { IfOk result (λ p. p.faces ≡ map (side (map_of (rows_of tables.now)))
+        (outer_rings (map_of (rows_of tables.now)))) }
     ensures refused { IfErr result (λ e. CheckNames e (first_fault (rows_of tables.now))) }
 {
     let parts = parts(alloc, rotation)?;
@@ -57,7 +58,8 @@ fn place_components(
 fn walk_from(alloc: Global, rotation: &Rotation, starts: &[u32]) -> Result<Tour, BuildFault>
     requires starts { AreComponentStarts rotation.now starts.now }
     requires plane { IsTrue (is_plane (map_of_rotation rotation.now)) }
-    ensures tour { IfOk result (λ t. IsTour (length rotation.now.edges) (next_dart rotation.now) (node_row rotation.now) starts.now t.darts.items t.tree.items t.first.items t.starts.items) }
+    ensures tour { IfOk result (λ t. IsTour (length rotation.now.edges) (next_dart rotation.now)
+        (node_row rotation.now) starts.now t.darts.items t.tree.items t.first.items t.starts.items) }
     ensures memory { IfErr result (λ e. e ≡ faults.Memory) }
 {
     match tour(alloc, rotation, starts) {

@@ -99,7 +99,8 @@ impl<'a> FacePlaces<'a> {
     ) -> Result<Vec<Standing>, AllocError>
         requires known { All (λ n. IsKnownOrNone self.now.faces.now n.face) nodes.now }
         requires apart { IsTrue (is_distinct (map (λ n. n.id) nodes.now)) }
-        ensures nodes { IfOk result (λ standing. IsPermutation (placed_nodes self.now.faces.now nodes.now) standing.items) }
+        ensures nodes { IfOk result (λ standing. IsPermutation (placed_nodes self.now.faces.now nodes.now)
+            standing.items) }
         ensures order { IfOk result (λ standing. AreInOrder standing.items) }
     {
         let standing = self.of_nodes(alloc, nodes)?;
@@ -155,7 +156,8 @@ fn components(
     requires ids { IsTrue (list_all (λ e. nat_le e.id LARGEST_ID) edges.now) }
     requires many { length places.now ≡ length starts.now }
     requires few { length places.now < 2 ^ 32 }
-    ensures { IfOk result (λ standing. standing.items ≡ placed_components places.now (map (key_of_dart edges.now) starts.now)) }
+    ensures { IfOk result (λ standing. standing.items ≡ placed_components places.now
+        (map (key_of_dart edges.now) starts.now)) }
 {
     let mut standing = Vec::new(alloc);
     for component in 0..places.len() {

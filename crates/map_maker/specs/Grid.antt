@@ -80,7 +80,8 @@ pub record IsOn (rows columns : ℕ) (p : Place) : Type 0 where
   pub row : p.row < rows
   pub column : p.column < columns
 
--- the edges from a node to the east and to the north: the cells beside them are their faces, or face 0 where there is none
+-- the edges from a node to the east and to the north: the cells beside them are their faces, or face 0 where there is
+-- none
 abbrev pub east_edge : ℕ → Place → EdgeRow
 east_edge n p =
     record {

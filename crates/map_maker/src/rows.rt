@@ -115,7 +115,8 @@ fn push_grid_nodes(nodes: &mut Vec<NodeRow>, n: u32) -> Result<(), AllocError>
 /// Adds the nodes of the closed edges.
 fn push_closed_nodes(nodes: &mut Vec<NodeRow>, n: u32) -> Result<(), AllocError>
     requires { n ≤ 1000 }
-    ensures { OnOk result (nodes.new.items ≡ nodes.old.items ++ map (closed_node n) (range_with_len 1 (closed_count n))) }
+    ensures { OnOk result (nodes.new.items ≡ nodes.old.items ++ map (closed_node n)
+        (range_with_len 1 (closed_count n))) }
 {
     for q in 0..closed_count(n) {
         nodes.push(NodeRow {
@@ -129,7 +130,8 @@ fn push_closed_nodes(nodes: &mut Vec<NodeRow>, n: u32) -> Result<(), AllocError>
 /// Adds the isolated nodes.
 fn push_isolated_nodes(nodes: &mut Vec<NodeRow>, n: u32) -> Result<(), AllocError>
     requires { n ≤ 1000 }
-    ensures { OnOk result (nodes.new.items ≡ nodes.old.items ++ map (isolated_node n) (range_with_len 1 (isolated_count n))) }
+    ensures { OnOk result (nodes.new.items ≡ nodes.old.items ++ map (isolated_node n)
+        (range_with_len 1 (isolated_count n))) }
 {
     let before = (n + 1) * (n + 1) + closed_count(n);
     for q in 0..isolated_count(n) {
@@ -170,7 +172,8 @@ fn push_north_edges(edges: &mut Vec<EdgeRow>, n: u32) -> Result<(), AllocError>
 /// Adds the closed edges.
 fn push_closed_edges(edges: &mut Vec<EdgeRow>, n: u32) -> Result<(), AllocError>
     requires { n ≤ 1000 }
-    ensures { OnOk result (edges.new.items ≡ edges.old.items ++ map (closed_edge n) (range_with_len 1 (closed_count n))) }
+    ensures { OnOk result (edges.new.items ≡ edges.old.items ++ map (closed_edge n)
+        (range_with_len 1 (closed_count n))) }
 {
     for q in 0..closed_count(n) {
         edges.push(closed_edge(n, 1 + q))?;

@@ -1,4 +1,5 @@
--- The lists of a file's map are short: no question lists more than four signed edges for each edge, so no total overflows.
+-- The lists of a file's map are short: no question lists more than four signed edges for each edge, so no total
+-- overflows.
 use Rattle.std.specs.Prelude.{ℤ, not, filter, flat_map, map, sum_by, if◌then◌else◌, ◌&&◌}
 use Rattle.std.proofs.Common.{◌≡◌, ℕ, zero, suc, ◌+◌, ◌*◌, ◌≤◌, inl, inr, Bool, true, false, List, [], ◌∷◌, length, arith, Option, Some, None, ◌==◌, length-append}
 use Rattle.std.proofs.lemmas.Bool.{cases_Bool}

@@ -27,15 +27,15 @@ fn moves_between<C: Ledger>(
     }
 }
 
-/// How many cells of the grid of 30 by 30 a cell is from the border: cell 1 is in the first row and column, and ids go on
-/// row by row.
+/// How many cells of the grid of 30 by 30 a cell is from the border: cell 1 is in the first row and column, and ids go
+/// on row by row.
 fn from_border(cell: u32) -> u32 {
     let (row, column) = ((cell - 1) / 30, (cell - 1) % 30);
     row.min(29 - row).min(column.min(29 - column))
 }
 
-/// How many moves lead from a cell of that grid to cell 437, whose row and column are 14 and 16: by rows and columns, or
-/// over face 0.
+/// How many moves lead from a cell of that grid to cell 437, whose row and column are 14 and 16: by rows and columns,
+/// or over face 0.
 fn cell_moves(cell: u32) -> u32 {
     let (row, column) = ((cell - 1) / 30, (cell - 1) % 30);
     let inside = row.abs_diff(14) + column.abs_diff(16);

@@ -27,7 +27,8 @@ Passes bits h j need Reached = (least_of bits h j +ℤ pos need) ≤ℤ pos 0
 Passes bits h j need (Passed left) =
     Rests bits (excess bits (node_from h j) -ℤ pos need) (node_from h j) (node_to (length bits) h j) need left
 
--- what a look at the next node says at the end of node j: the place is in the next, or the need at the end of their parent
+-- what a look at the next node says at the end of node j: the place is in the next, or the need at the end of their
+-- parent
 abbrev pub Sibling : List Bool → ℕ → ℕ → ℕ → Side → Type 0
 Sibling bits h j need Reached = (j + 1 < size_at (length bits) h) × ((least_of bits h (j + 1) +ℤ pos need) ≤ℤ pos 0)
 Sibling bits h j need (Passed left) =

@@ -51,7 +51,8 @@ pub record LeadsBack (bits : List Bool) (high need : ℕ) (spot : Spot) : Type 0
   pub order : node_to (length bits) spot.level.height spot.j ≤ high
   pub remains : Remains bits (excess bits high -ℤ pos need) (node_to (length bits) spot.level.height spot.j) high need spot.need
 
--- what a look at the node before says at the start of node j: the place is in that node, or the need at the start of their parent
+-- what a look at the node before says at the start of node j: the place is in that node, or the need at the start of
+-- their parent
 abbrev pub SiblingBack : List Bool → ℕ → ℕ → ℕ → Side → Type 0
 SiblingBack bits h j need Reached = (0 < j) × ((least_of bits h (j - 1) +ℤ pos need) ≤ℤ total_of bits h (j - 1))
 SiblingBack bits h j need (Passed left) =

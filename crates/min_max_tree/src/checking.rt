@@ -39,8 +39,10 @@ fn parent_seen<C: Ledger>(
     requires level { IsLevel (length (bits_of bits.now)) level }
     requires within { j < size_at (length (bits_of bits.now)) (level.height + 1) }
     requires size { start_at (length (bits_of bits.now)) (level.height + 1) ≤ length (words_of nodes.now) }
-    requires holds { HoldsFirst (nodes_of (bits_of bits.now)) (words_of nodes.now) (start_at (length (bits_of bits.now)) (level.height + 1)) }
-    ensures run { IsRun (bits_of bits.now) (node_from (level.height + 1) j) (node_to (length (bits_of bits.now)) (level.height + 1) j) result }
+    requires holds { HoldsFirst (nodes_of (bits_of bits.now)) (words_of nodes.now)
+        (start_at (length (bits_of bits.now)) (level.height + 1)) }
+    ensures run { IsRun (bits_of bits.now) (node_from (level.height + 1) j)
+        (node_to (length (bits_of bits.now)) (level.height + 1) j) result }
     ensures some_steps { steps.old + 1 ≤ steps.new }
     ensures cost { steps.new ≤ steps.old + 2 }
 {
@@ -60,7 +62,8 @@ fn check_lowest<C: Ledger>(
 ) -> Result<(), WrongEntry>
     requires few { length (bits_of bits.now) ≤ 2147483647 }
     requires size { length (words_of nodes.now) ≡ tree_size (length (bits_of bits.now)) }
-    ensures checked { MatchResult result (λ _. HoldsFirst (nodes_of (bits_of bits.now)) (words_of nodes.now) (start_at (length (bits_of bits.now)) 1)) (IsFirstWrong (nodes_of (bits_of bits.now)) (words_of nodes.now)) }
+    ensures checked { MatchResult result (λ _. HoldsFirst (nodes_of (bits_of bits.now)) (words_of nodes.now)
+        (start_at (length (bits_of bits.now)) 1)) (IsFirstWrong (nodes_of (bits_of bits.now)) (words_of nodes.now)) }
     ensures grows { steps.old ≤ steps.new }
     ensures cost { steps.new ≤ steps.old + length (bits_of bits.now) + start_at (length (bits_of bits.now)) 1 }
 {
@@ -90,10 +93,14 @@ fn check_parents<C: Ledger>(
     requires size { length (words_of nodes.now) ≡ tree_size (length (bits_of bits.now)) }
     requires level { IsLevel (length (bits_of bits.now)) level }
     requires more { 1 < size_at (length (bits_of bits.now)) level.height }
-    requires holds { HoldsFirst (nodes_of (bits_of bits.now)) (words_of nodes.now) (start_at (length (bits_of bits.now)) (level.height + 1)) }
-    ensures checked { MatchResult result (λ _. HoldsFirst (nodes_of (bits_of bits.now)) (words_of nodes.now) (start_at (length (bits_of bits.now)) (level.height + 2))) (IsFirstWrong (nodes_of (bits_of bits.now)) (words_of nodes.now)) }
+    requires holds { HoldsFirst (nodes_of (bits_of bits.now)) (words_of nodes.now)
+        (start_at (length (bits_of bits.now)) (level.height + 1)) }
+    ensures checked { MatchResult result (λ _. HoldsFirst (nodes_of (bits_of bits.now)) (words_of nodes.now)
+        (start_at (length (bits_of bits.now)) (level.height + 2)))
+        (IsFirstWrong (nodes_of (bits_of bits.now)) (words_of nodes.now)) }
     ensures grows { steps.old ≤ steps.new }
-    ensures cost { steps.new + 3 * start_at (length (bits_of bits.now)) (level.height + 1) ≤ steps.old + 3 * start_at (length (bits_of bits.now)) (level.height + 2) }
+    ensures cost { steps.new + 3 * start_at (length (bits_of bits.now)) (level.height + 1)
+        ≤ steps.old + 3 * start_at (length (bits_of bits.now)) (level.height + 2) }
 {
     let len = bits.len();
     let above = level.above(len);
@@ -120,7 +127,8 @@ fn check_levels<C: Ledger>(
 ) -> Result<(), WrongEntry>
     requires few { length (bits_of bits.now) ≤ 2147483647 }
     requires size { length (words_of nodes.now) ≡ tree_size (length (bits_of bits.now)) }
-    ensures checked { MatchResult result (λ _. words_of nodes.now ≡ nodes_of (bits_of bits.now)) (IsFirstWrong (nodes_of (bits_of bits.now)) (words_of nodes.now)) }
+    ensures checked { MatchResult result (λ _. words_of nodes.now ≡ nodes_of (bits_of bits.now))
+        (IsFirstWrong (nodes_of (bits_of bits.now)) (words_of nodes.now)) }
     ensures grows { steps.old ≤ steps.new }
     ensures cost { steps.new ≤ steps.old + 4 * length (bits_of bits.now) + 16 }
 {
@@ -142,7 +150,8 @@ pub fn check<C: Ledger>(
 ) -> Result<(), WrongEntry>
     requires few { length (bits_of bits) ≤ 2147483647 }
     requires size { length (words_of nodes) ≡ tree_size (length (bits_of bits)) }
-    ensures checked { MatchResult result (λ _. words_of nodes.entry ≡ nodes_of (bits_of bits.entry)) (IsFirstWrong (nodes_of (bits_of bits.entry)) (words_of nodes.entry)) }
+    ensures checked { MatchResult result (λ _. words_of nodes.entry ≡ nodes_of (bits_of bits.entry))
+        (IsFirstWrong (nodes_of (bits_of bits.entry)) (words_of nodes.entry)) }
     ensures grows { steps.old ≤ steps.new }
     ensures cost { steps.new ≤ steps.old + 4 * length (bits_of bits.entry) + 16 }
 {

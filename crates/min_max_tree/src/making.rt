@@ -74,7 +74,8 @@ fn push_parents(bits: &BitMaker, nodes: &mut Vec<u64>, level: Level) -> Result<(
     requires level { IsLevel (length bits.now) level }
     requires more { 1 < size_at (length bits.now) level.height }
     requires built { Built (nodes_of bits.now) nodes.old.items (start_at (length bits.now) (level.height + 1)) }
-    ensures built { OnOk result (Built (nodes_of bits.now) nodes.new.items (start_at (length bits.now) (level.height + 2))) }
+    ensures built { OnOk result (Built (nodes_of bits.now) nodes.new.items
+        (start_at (length bits.now) (level.height + 2))) }
 {
     let len = bits.len();
     for j in 0..level.above(len).size(len) {

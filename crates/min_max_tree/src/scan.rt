@@ -81,8 +81,8 @@ pub(crate) fn scan_word<C: Ledger>(
     }
 }
 
-/// The first place after `from` and up to `to` where the excess is `need` lower than at `from`, word by word and without
-/// a tree.
+/// The first place after `from` and up to `to` where the excess is `need` lower than at `from`, word by word and
+/// without a tree.
 pub fn scan_bits<C: Ledger>(
     bits: &BitView<'_>,
     from: usize,

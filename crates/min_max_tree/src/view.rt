@@ -119,9 +119,12 @@ impl<'a> MinMaxView<'a> {
         requires within { block < size_at (length (searched self.now)) 0 }
         requires need { 1 ≤ need }
         requires small { need ≤ 4294967296 }
-        ensures found { IfSome result (LeadsTo (searched self.now) (node_to (length (searched self.now)) 0 block) need) }
+        ensures found { IfSome result (LeadsTo (searched self.now) (node_to (length (searched self.now)) 0 block)
+            need) }
         ensures low { IfSome result (λ spot. spot.level.height ≤ digits (length (searched self.now))) }
-        ensures none { IfNone result (StaysAbove (searched self.now) (excess (searched self.now) (node_to (length (searched self.now)) 0 block) -ℤ pos need) (node_to (length (searched self.now)) 0 block) (length (searched self.now))) }
+        ensures none { IfNone result (StaysAbove (searched self.now)
+            (excess (searched self.now) (node_to (length (searched self.now)) 0 block) -ℤ pos need)
+            (node_to (length (searched self.now)) 0 block) (length (searched self.now))) }
         ensures grows { steps.old ≤ steps.new }
         ensures cost { steps.new ≤ steps.old + digits (length (searched self.now)) }
     {
@@ -194,7 +197,8 @@ impl<'a> MinMaxView<'a> {
     pub fn forward<C: Ledger>(&self, i: usize, drop: u64, steps: &mut Steps<C>) -> Option<usize>
         requires within { i ≤ length (searched self.now) }
         requires some { 1 ≤ drop }
-        ensures next { IsNext (λ p. excess (searched self.now) p ≡ excess (searched self.now) i -ℤ pos drop) i (length (searched self.now)) result }
+        ensures next { IsNext (λ p. excess (searched self.now) p ≡ excess (searched self.now) i -ℤ pos drop) i
+            (length (searched self.now)) result }
         ensures grows { steps.old ≤ steps.new }
         ensures cost { steps.new ≤ steps.old + 4 * digits (length (searched self.now) + 2) + 40 }
     {
@@ -218,8 +222,12 @@ impl<'a> MinMaxView<'a> {
         requires within { block < size_at (length (searched self.now)) 0 }
         requires need { 1 ≤ need }
         requires small { need ≤ 4294967296 }
-        ensures found { IfSome result (Reaches (searched self.now) (excess (searched self.now) (node_to (length (searched self.now)) 0 block) -ℤ pos need) (node_to (length (searched self.now)) 0 block) (length (searched self.now))) }
-        ensures none { IfNone result (StaysAbove (searched self.now) (excess (searched self.now) (node_to (length (searched self.now)) 0 block) -ℤ pos need) (node_to (length (searched self.now)) 0 block) (length (searched self.now))) }
+        ensures found { IfSome result (Reaches (searched self.now) (excess (searched self.now)
+            (node_to (length (searched self.now)) 0 block) -ℤ pos need) (node_to (length (searched self.now)) 0 block)
+            (length (searched self.now))) }
+        ensures none { IfNone result (StaysAbove (searched self.now)
+            (excess (searched self.now) (node_to (length (searched self.now)) 0 block) -ℤ pos need)
+            (node_to (length (searched self.now)) 0 block) (length (searched self.now))) }
         ensures grows { steps.old ≤ steps.new }
         ensures cost { steps.new ≤ steps.old + 2 * digits (length (searched self.now)) + 8 }
     {
@@ -237,7 +245,8 @@ impl<'a> MinMaxView<'a> {
         requires spot { IsSpot (searched self.now) spot }
         requires height { spot.level.height ≡ 0 }
         requires small { spot.need ≤ 8589934592 }
-        ensures found { Reaches (searched self.now) (excess (searched self.now) (node_from 0 spot.j) -ℤ pos spot.need) (node_from 0 spot.j) (length (searched self.now)) result }
+        ensures found { Reaches (searched self.now) (excess (searched self.now) (node_from 0 spot.j) -ℤ pos spot.need)
+            (node_from 0 spot.j) (length (searched self.now)) result }
         ensures grows { steps.old ≤ steps.new }
         ensures cost { steps.new ≤ steps.old + 8 }
     {
@@ -295,7 +304,8 @@ impl<'a> MinMaxView<'a> {
         requires small { need ≤ 4294967296 }
         ensures found { IfSome result (LeadsBack (searched self.now) (node_from 0 block) need) }
         ensures low { IfSome result (λ spot. spot.level.height ≤ digits (length (searched self.now))) }
-        ensures none { IfNone result (WasAbove (searched self.now) (excess (searched self.now) (node_from 0 block) -ℤ pos need) 0 (node_from 0 block)) }
+        ensures none { IfNone result (WasAbove (searched self.now) (excess (searched self.now) (node_from 0 block)
+            -ℤ pos need) 0 (node_from 0 block)) }
         ensures grows { steps.old ≤ steps.new }
         ensures cost { steps.new ≤ steps.old + digits (length (searched self.now)) }
     {
@@ -327,7 +337,8 @@ impl<'a> MinMaxView<'a> {
         requires spot { IsSpotBack (searched self.now) spot }
         requires more { 0 < spot.level.height }
         requires small { spot.need ≤ 8589934592 }
-        ensures leads { LeadsBack (searched self.now) (node_to (length (searched self.now)) spot.level.height spot.j) spot.need result }
+        ensures leads { LeadsBack (searched self.now) (node_to (length (searched self.now)) spot.level.height spot.j)
+            spot.need result }
         ensures height { result.level.height + 1 ≡ spot.level.height }
         ensures grows { steps.old ≤ steps.new }
         ensures cost { steps.new ≤ steps.old + 1 }
@@ -361,7 +372,8 @@ impl<'a> MinMaxView<'a> {
     fn descend_back<C: Ledger>(&self, from: Spot, steps: &mut Steps<C>) -> Spot
         requires spot { IsSpotBack (searched self.now) from }
         requires small { from.need ≤ 6442450944 }
-        ensures leads { LeadsBack (searched self.now) (node_to (length (searched self.now)) from.level.height from.j) from.need result }
+        ensures leads { LeadsBack (searched self.now) (node_to (length (searched self.now)) from.level.height from.j)
+            from.need result }
         ensures height { result.level.height ≡ 0 }
         ensures grows { steps.old ≤ steps.new }
         ensures cost { steps.new ≤ steps.old + from.level.height }
@@ -378,7 +390,9 @@ impl<'a> MinMaxView<'a> {
         requires spot { IsSpotBack (searched self.now) spot }
         requires height { spot.level.height ≡ 0 }
         requires small { spot.need ≤ 8589934592 }
-        ensures found { Leaves (searched self.now) (excess (searched self.now) (node_to (length (searched self.now)) 0 spot.j) -ℤ pos spot.need) 0 (node_to (length (searched self.now)) 0 spot.j) result }
+        ensures found { Leaves (searched self.now) (excess (searched self.now)
+            (node_to (length (searched self.now)) 0 spot.j) -ℤ pos spot.need) 0
+            (node_to (length (searched self.now)) 0 spot.j) result }
         ensures grows { steps.old ≤ steps.new }
         ensures cost { steps.new ≤ steps.old + 8 }
     {
@@ -395,8 +409,10 @@ impl<'a> MinMaxView<'a> {
         requires within { block < size_at (length (searched self.now)) 0 }
         requires need { 1 ≤ need }
         requires small { need ≤ 4294967296 }
-        ensures found { IfSome result (Leaves (searched self.now) (excess (searched self.now) (node_from 0 block) -ℤ pos need) 0 (node_from 0 block)) }
-        ensures none { IfNone result (WasAbove (searched self.now) (excess (searched self.now) (node_from 0 block) -ℤ pos need) 0 (node_from 0 block)) }
+        ensures found { IfSome result (Leaves (searched self.now) (excess (searched self.now) (node_from 0 block)
+            -ℤ pos need) 0 (node_from 0 block)) }
+        ensures none { IfNone result (WasAbove (searched self.now) (excess (searched self.now) (node_from 0 block)
+            -ℤ pos need) 0 (node_from 0 block)) }
         ensures grows { steps.old ≤ steps.new }
         ensures cost { steps.new ≤ steps.old + 2 * digits (length (searched self.now)) + 8 }
     {
@@ -413,7 +429,8 @@ impl<'a> MinMaxView<'a> {
     pub fn backward<C: Ledger>(&self, i: usize, drop: u64, steps: &mut Steps<C>) -> Option<usize>
         requires within { i ≤ length (searched self.now) }
         requires some { 1 ≤ drop }
-        ensures last { IsLast (λ p. excess (searched self.now) p ≡ excess (searched self.now) i -ℤ pos drop) 0 i result }
+        ensures last { IsLast (λ p. excess (searched self.now) p ≡ excess (searched self.now) i
+            -ℤ pos drop) 0 i result }
         ensures grows { steps.old ≤ steps.new }
         ensures cost { steps.new ≤ steps.old + 4 * digits (length (searched self.now) + 2) + 40 }
     {
@@ -436,7 +453,8 @@ impl<'a> MinMaxView<'a> {
         requires within { node_from level.height j ≤ length (searched self.now) }
         requires low { 4294967296 ≤ rise }
         requires high { rise ≤ 2199023255552 }
-        ensures rise { excess (searched self.now) (node_from (level.height + 1) (j / 2)) +ℤ pos result ≡ excess (searched self.now) (node_from level.height j) +ℤ pos rise }
+        ensures rise { excess (searched self.now) (node_from (level.height + 1) (j / 2)) +ℤ pos result
+            ≡ excess (searched self.now) (node_from level.height j) +ℤ pos rise }
         ensures grows { steps.old ≤ steps.new }
         ensures cost { steps.new ≤ steps.old + j % 2 }
     {

@@ -11,7 +11,8 @@ pub record IsUnseen (c : Contents) (place : ℕ) (seen : List ℕ) (p g : ℕ) :
   pub new : has seen g ≡ false
   pub low : g ≤ length c.faces
 
--- of the places across the edges at `all` the first `count` were given: the rest lies across the edges at `left`, the next of it, `next`, across the first
+-- of the places across the edges at `all` the first `count` were given: the rest lies across the edges at `left`, the
+-- next of it, `next`, across the first
 pub record IsStanding (c : Contents) (place : ℕ) (all left : List ℕ) (count next : ℕ) : Type 0 where
   pub stays : drop count (adjacent_places c place all) ≡ unseen c place (take count (adjacent_places c place all)) left
   pub ahead : (p : ℕ) (ps : List ℕ) → left ≡ p ∷ ps → IsUnseen c place (take count (adjacent_places c place all)) p next

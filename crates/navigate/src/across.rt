@@ -25,7 +25,8 @@ pub struct AdjacentWalk<'a> {
     /// The place of the next face, unless the rings are at their end.
     next: usize,
     ghost same: { rings.contents_in whole ≡ rings.contents_in left },
-    ghost standing: { IsStanding (rings.contents_in left) place (rings.face_positions whole) (rings.face_positions left) count next },
+    ghost standing: { IsStanding (rings.contents_in left) place (rings.face_positions whole)
+        (rings.face_positions left) count next },
 }
 
 impl<'a> AdjacentWalk<'a> {
@@ -46,12 +47,16 @@ impl<'a> AdjacentWalk<'a> {
         next: usize,
     ) -> AdjacentWalk<'a>
         requires same { rings.contents_in whole ≡ rings.contents_in left }
-        requires standing { IsStanding (rings.contents_in left) place (rings.face_positions whole) (rings.face_positions left) 0 next }
+        requires standing { IsStanding (rings.contents_in left) place (rings.face_positions whole)
+            (rings.face_positions left) 0 next }
         ensures contents { contents_in result ≡ rings.contents_in left.entry }
         ensures given { given result ≡ [] }
-        ensures rest { rest result ≡ map (face_at_place (rings.contents_in left.entry)) (adjacent_places (rings.contents_in left.entry) place (rings.face_positions whole.entry)) }
+        ensures rest { rest result ≡ map (face_at_place (rings.contents_in left.entry))
+            (adjacent_places (rings.contents_in left.entry) place (rings.face_positions whole.entry)) }
         ensures places { given_places result ≡ [] }
-        ensures paid { allowance result ≡ step_price (rings.contents_in left.entry) * length (rings.face_positions left.entry) + pass_price (rings.contents_in left.entry) * length (rings.face_positions whole.entry) }
+        ensures paid { allowance result ≡ step_price (rings.contents_in left.entry)
+            * length (rings.face_positions left.entry)
+            + pass_price (rings.contents_in left.entry) * length (rings.face_positions whole.entry) }
     {
         AdjacentWalk {
             place,

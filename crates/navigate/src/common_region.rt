@@ -24,7 +24,8 @@ pub fn region_walk<'a, C: Ledger>(
     ensures known { is_some result ≡ is_face (served_map served.entry) face.0 }
     ensures list { IfSome result (λ w. rest w ≡ chain (served_map served.entry) face.0) }
     ensures grows { steps.old ≤ steps.new }
-    ensures paid { MatchOption result (steps.new ≤ steps.old + most_words (served_map served.entry) 0 0) (λ w. steps.new + allowance w ≤ steps.old + most_words (served_map served.entry) 0 (length (rest w))) }
+    ensures paid { MatchOption result (steps.new ≤ steps.old + most_words (served_map served.entry) 0 0)
+        (λ w. steps.new + allowance w ≤ steps.old + most_words (served_map served.entry) 0 (length (rest w))) }
 {
     let place = names::place_of(served, face, steps)?;
     let regions = served.regions();
@@ -41,7 +42,9 @@ fn common_at<C: Ledger>(
 ) -> Option<RegionId>
     requires first { first ≤ length (contents_of_view served).faces }
     requires second { second ≤ length (contents_of_view served).faces }
-    ensures region { option_map (λ r. r.0) result ≡ common_region (served_map served.entry) (face_at_place (contents_of_view served.entry) first) (face_at_place (contents_of_view served.entry) second) }
+    ensures region { option_map (λ r. r.0) result
+        ≡ common_region (served_map served.entry) (face_at_place (contents_of_view served.entry) first)
+        (face_at_place (contents_of_view served.entry) second) }
     ensures some_steps { steps.old + 1 ≤ steps.new }
     ensures cost { steps.new ≤ steps.old + (21 * line_digits (contents_of_view served.entry) + 154) }
 {
@@ -60,11 +63,14 @@ pub fn common<C: Ledger>(
     second: FaceId,
     steps: &mut Steps<C>,
 ) -> Option<Option<RegionId>>
-    ensures known { is_some result ≡ (is_face (served_map served.entry) first.0 && is_face (served_map served.entry) second.0) }
-    ensures region { IfSome result (λ region. option_map (λ r. r.0) region ≡ common_region (served_map served.entry) first.0 second.0) }
+    ensures known { is_some result ≡ (is_face (served_map served.entry) first.0
+        && is_face (served_map served.entry) second.0) }
+    ensures region { IfSome result (λ region. option_map (λ r. r.0) region
+        ≡ common_region (served_map served.entry) first.0 second.0) }
     ensures grows { steps.old ≤ steps.new }
     ensures least { IfSome result (λ region. IsSome region → steps.old + 1 ≤ steps.new) }
-    ensures paid { MatchOption result (steps.new ≤ steps.old + most_words (served_map served.entry) 0 0) (λ region. steps.new ≤ steps.old + most_words (served_map served.entry) 0 (length (option_to_list region))) }
+    ensures paid { MatchOption result (steps.new ≤ steps.old + most_words (served_map served.entry) 0 0)
+        (λ region. steps.new ≤ steps.old + most_words (served_map served.entry) 0 (length (option_to_list region))) }
 {
     let first_place = names::place_of(served, first, steps)?;
     let second_place = names::place_of(served, second, steps)?;

@@ -48,7 +48,9 @@ impl<'a> FaceWalk<'a> {
         requires same { orbits.contents_in ring ≡ contents_of_view served }
         requires ends { end ≤ length (contents_of_view served).place_order }
         ensures contents { contents_in result ≡ contents_of_view served.entry }
-        ensures positions { face_positions result ≡ orbits.positions_left ring.entry ++ outer_positions (contents_of_view served.entry) (components_between (contents_of_view served.entry) hole end) }
+        ensures positions { face_positions result ≡ orbits.positions_left ring.entry
+            ++ outer_positions (contents_of_view served.entry)
+            (components_between (contents_of_view served.entry) hole end) }
         ensures grows { steps.old ≤ steps.new }
         ensures cost { steps.new ≤ steps.old + 6 }
     {
@@ -79,8 +81,10 @@ impl<'a> FaceWalk<'a> {
 
     /// The next position, which stays the next one, or None at the end.
     pub(crate) fn peek(&self) -> Option<usize>
-        ensures within { MatchOption result (face_positions self.now ≡ []) (λ p. p < length (contents_in self.now).code.a) }
-        ensures next { MatchOption result (face_positions self.now ≡ []) (λ p. face_positions self.now ≡ p ∷ drop 1 (face_positions self.now)) }
+        ensures within { MatchOption result (face_positions self.now ≡ [])
+            (λ p. p < length (contents_in self.now).code.a) }
+        ensures next { MatchOption result (face_positions self.now ≡ [])
+            (λ p. face_positions self.now ≡ p ∷ drop 1 (face_positions self.now)) }
     {
         match self.ring.peek() {
             Some(p) => Some(p),
@@ -91,9 +95,12 @@ impl<'a> FaceWalk<'a> {
     /// The next position, or None at the end.
     pub fn pass<C: Ledger>(&mut self, steps: &mut Steps<C>) -> Option<usize>
         ensures contents { contents_in self.new ≡ contents_in self.old }
-        ensures next { MatchOption result (face_positions self.old ≡ []) (λ p. face_positions self.old ≡ p ∷ face_positions self.new) }
-        ensures within { MatchOption result (face_positions self.new ≡ []) (λ p. p < length (contents_in self.old).code.a) }
-        ensures cost { MatchOption result (steps.new ≡ steps.old) (λ _. (steps.old + 1 ≤ steps.new) × (steps.new ≤ steps.old + (9 * line_digits (contents_in self.old) + 71))) }
+        ensures next { MatchOption result (face_positions self.old ≡ [])
+            (λ p. face_positions self.old ≡ p ∷ face_positions self.new) }
+        ensures within { MatchOption result (face_positions self.new ≡ [])
+            (λ p. p < length (contents_in self.old).code.a) }
+        ensures cost { MatchOption result (steps.new ≡ steps.old) (λ _. (steps.old + 1 ≤ steps.new)
+            × (steps.new ≤ steps.old + (9 * line_digits (contents_in self.old) + 71))) }
     {
         let mut ring = self.ring;
         match ring.pass(steps) {

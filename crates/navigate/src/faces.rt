@@ -28,9 +28,11 @@ pub fn rings_at<'a, C: Ledger>(
 ) -> FaceWalk<'a>
     requires { place ≤ length (contents_of_view served).faces }
     ensures contents { contents_in result ≡ contents_of_view served.entry }
-    ensures list { rest result ≡ face_edges (served_map served.entry) (face_at_place (contents_of_view served.entry) place) }
+    ensures list { rest result ≡ face_edges (served_map served.entry)
+        (face_at_place (contents_of_view served.entry) place) }
     ensures grows { steps.old ≤ steps.new }
-    ensures cost { steps.new ≤ steps.old + (14 * line_digits (contents_of_view served.entry) + 30 + orbits.price (contents_of_view served.entry) * length (rest result)) }
+    ensures cost { steps.new ≤ steps.old + (14 * line_digits (contents_of_view served.entry) + 30
+        + orbits.price (contents_of_view served.entry) * length (rest result)) }
 {
     let hole = components_below(served, place, steps);
     let end = components_below(served, place + 1, steps);
@@ -46,9 +48,12 @@ fn shell_walk<'a, C: Ledger>(
 ) -> OrbitWalk<'a>
     requires { place ≤ length (contents_of_view served).faces }
     ensures contents { orbits.contents_in result ≡ contents_of_view served.entry }
-    ensures list { orbits.rest result ≡ (if face_at_place (contents_of_view served.entry) place == 0 then [] else ring_if_some (served_map served.entry) (shell (served_map served.entry) (face_at_place (contents_of_view served.entry) place))) }
+    ensures list { orbits.rest result ≡ (if face_at_place (contents_of_view served.entry) place == 0 then []
+        else ring_if_some (served_map served.entry) (shell (served_map served.entry)
+        (face_at_place (contents_of_view served.entry) place))) }
     ensures grows { steps.old ≤ steps.new }
-    ensures cost { steps.new ≤ steps.old + (6 * line_digits (contents_of_view served.entry) + 24 + orbits.price (contents_of_view served.entry) * length (orbits.rest result)) }
+    ensures cost { steps.new ≤ steps.old + (6 * line_digits (contents_of_view served.entry) + 24
+        + orbits.price (contents_of_view served.entry) * length (orbits.rest result)) }
 {
     if place == 0 {
         return OrbitWalk::over(served);
@@ -70,7 +75,9 @@ pub fn face_walk<'a, C: Ledger>(
     ensures known { is_some result ≡ is_face (served_map served.entry) face.0 }
     ensures list { IfSome result (λ w. rest w ≡ face_edges (served_map served.entry) face.0) }
     ensures grows { steps.old ≤ steps.new }
-    ensures paid { MatchOption result (steps.new ≤ steps.old + most_words (served_map served.entry) 0 0) (λ w. steps.new + allowance w ≤ steps.old + most_words (served_map served.entry) (length (rest w)) (length (rest w))) }
+    ensures paid { MatchOption result (steps.new ≤ steps.old + most_words (served_map served.entry) 0 0)
+        (λ w. steps.new + allowance w ≤ steps.old + most_words (served_map served.entry) (length (rest w))
+        (length (rest w))) }
 {
     match names::place_of(served, face, steps) {
         Some(place) => Some(rings_at(served, place, steps)),

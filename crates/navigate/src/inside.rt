@@ -61,7 +61,8 @@ impl<'a> IslandWalk<'a> {
     /// The next component or node, or None at the end.
     pub fn step<C: Ledger>(&mut self, steps: &mut Steps<C>) -> Option<Island>
         ensures contents { contents_in self.new ≡ contents_in self.old }
-        ensures next { MatchOption result (rest self.old ≡ []) (λ island. rest self.old ≡ item_of island ∷ rest self.new) }
+        ensures next { MatchOption result (rest self.old ≡ []) (λ island. rest self.old
+            ≡ item_of island ∷ rest self.new) }
         ensures end { IsNone result → rest self.new ≡ [] }
         ensures least { IsSome result → steps.old + 1 ≤ steps.new }
         ensures free { IsNone result → steps.new ≡ steps.old }

@@ -23,9 +23,11 @@ pub fn island_walk<'a, C: Ledger>(
     steps: &mut Steps<C>,
 ) -> Option<IslandWalk<'a>>
     ensures known { is_some result ≡ is_face (served_map served.entry) face.0 }
-    ensures list { IfSome result (λ w. rest w ≡ map Item.Signed_edge (holes (served_map served.entry) face.0) ++ map Item.Island_node (isolated_nodes (served_map served.entry) face.0)) }
+    ensures list { IfSome result (λ w. rest w ≡ map Item.Signed_edge (holes (served_map served.entry) face.0)
+        ++ map Item.Island_node (isolated_nodes (served_map served.entry) face.0)) }
     ensures grows { steps.old ≤ steps.new }
-    ensures paid { MatchOption result (steps.new ≤ steps.old + most_words (served_map served.entry) 0 0) (λ w. steps.new + allowance w ≤ steps.old + most_words (served_map served.entry) 0 (length (rest w))) }
+    ensures paid { MatchOption result (steps.new ≤ steps.old + most_words (served_map served.entry) 0 0)
+        (λ w. steps.new + allowance w ≤ steps.old + most_words (served_map served.entry) 0 (length (rest w))) }
 {
     let Some(place) = names::place_of(served, face, steps) else {
         return None;

@@ -19,7 +19,8 @@ pub fn next<C: Ledger>(served: Served<'_>, edge: Signed, steps: &mut Steps<C>) -
     ensures next { IfSome result (λ d. d ≡ next_edge (served_map served.entry) edge) }
     ensures grows { steps.old ≤ steps.new }
     ensures least { IfSome result (λ _. steps.old + 1 ≤ steps.new) }
-    ensures paid { MatchOption result (steps.new ≤ steps.old + most_words (served_map served.entry) 0 0) (λ _. steps.new ≤ steps.old + most_words (served_map served.entry) 0 1) }
+    ensures paid { MatchOption result (steps.new ≤ steps.old + most_words (served_map served.entry) 0 0)
+        (λ _. steps.new ≤ steps.old + most_words (served_map served.entry) 0 1) }
 {
     let Some(p) = positions::position_of(served, edge, steps) else {
         return None;
@@ -35,10 +36,12 @@ pub fn ends<C: Ledger>(
     steps: &mut Steps<C>,
 ) -> Option<(NodeId, NodeId)>
     ensures known { is_some result ≡ has_signed_edge (served_map served.entry) edge }
-    ensures ends { IfSome result (λ pair. (pair.0.0 ≡ origin (served_map served.entry) edge) × (pair.1.0 ≡ head (served_map served.entry) edge)) }
+    ensures ends { IfSome result (λ pair. (pair.0.0 ≡ origin (served_map served.entry) edge)
+        × (pair.1.0 ≡ head (served_map served.entry) edge)) }
     ensures grows { steps.old ≤ steps.new }
     ensures least { IfSome result (λ _. steps.old + 2 ≤ steps.new) }
-    ensures paid { MatchOption result (steps.new ≤ steps.old + most_words (served_map served.entry) 0 0) (λ _. steps.new ≤ steps.old + most_words (served_map served.entry) 0 2) }
+    ensures paid { MatchOption result (steps.new ≤ steps.old + most_words (served_map served.entry) 0 0)
+        (λ _. steps.new ≤ steps.old + most_words (served_map served.entry) 0 2) }
 {
     let Some((p, mate)) = positions::both_positions(served, edge, steps) else {
         return None;
@@ -55,10 +58,12 @@ pub fn sides<C: Ledger>(
     steps: &mut Steps<C>,
 ) -> Option<(FaceId, FaceId)>
     ensures known { is_some result ≡ has_signed_edge (served_map served.entry) edge }
-    ensures sides { IfSome result (λ pair. (pair.0.0 ≡ side (served_map served.entry) edge) × (pair.1.0 ≡ side (served_map served.entry) (reverse edge))) }
+    ensures sides { IfSome result (λ pair. (pair.0.0 ≡ side (served_map served.entry) edge)
+        × (pair.1.0 ≡ side (served_map served.entry) (reverse edge))) }
     ensures grows { steps.old ≤ steps.new }
     ensures least { IfSome result (λ _. steps.old + 2 ≤ steps.new) }
-    ensures paid { MatchOption result (steps.new ≤ steps.old + most_words (served_map served.entry) 0 0) (λ _. steps.new ≤ steps.old + most_words (served_map served.entry) 0 2) }
+    ensures paid { MatchOption result (steps.new ≤ steps.old + most_words (served_map served.entry) 0 0)
+        (λ _. steps.new ≤ steps.old + most_words (served_map served.entry) 0 2) }
 {
     let Some((p, mate)) = positions::both_positions(served, edge, steps) else {
         return None;
@@ -79,7 +84,8 @@ pub fn containing<C: Ledger>(
     ensures face { IfSome result (λ f. containing_face (served_map served.entry) node.0 ≡ Some f.0) }
     ensures grows { steps.old ≤ steps.new }
     ensures least { IfSome result (λ _. steps.old + 1 ≤ steps.new) }
-    ensures paid { MatchOption result (steps.new ≤ steps.old + most_words (served_map served.entry) 0 0) (λ _. steps.new ≤ steps.old + most_words (served_map served.entry) 0 1) }
+    ensures paid { MatchOption result (steps.new ≤ steps.old + most_words (served_map served.entry) 0 0)
+        (λ _. steps.new ≤ steps.old + most_words (served_map served.entry) 0 1) }
 {
     let Some(number) = names::node_number(served, node, steps) else {
         return None;

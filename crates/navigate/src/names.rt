@@ -22,7 +22,8 @@ pub fn node_number<C: Ledger>(
     steps: &mut Steps<C>,
 ) -> Option<usize>
     ensures known { is_some result ≡ has_node (served_map served.entry) node.0 }
-    ensures found { IfSome result (λ x. (x < length (contents_of_view served.entry).nodes) × (slice_index (contents_of_view served.entry).nodes x ≡ node.0)) }
+    ensures found { IfSome result (λ x. (x < length (contents_of_view served.entry).nodes)
+        × (slice_index (contents_of_view served.entry).nodes x ≡ node.0)) }
     ensures grows { steps.old ≤ steps.new }
     ensures cost { steps.new ≤ steps.old + (12 * line_digits (contents_of_view served.entry) + 60) }
 {
@@ -32,7 +33,8 @@ pub fn node_number<C: Ledger>(
 /// The place of a face: 0 for face 0, and else 1 + its number. None where the map lacks the face.
 pub fn place_of<C: Ledger>(served: Served<'_>, face: FaceId, steps: &mut Steps<C>) -> Option<usize>
     ensures known { is_some result ≡ is_face (served_map served.entry) face.0 }
-    ensures found { IfSome result (λ place. (place ≤ length (contents_of_view served.entry).faces) × (face_at_place (contents_of_view served.entry) place ≡ face.0)) }
+    ensures found { IfSome result (λ place. (place ≤ length (contents_of_view served.entry).faces)
+        × (face_at_place (contents_of_view served.entry) place ≡ face.0)) }
     ensures grows { steps.old ≤ steps.new }
     ensures cost { steps.new ≤ steps.old + (12 * line_digits (contents_of_view served.entry) + 60) }
 {
@@ -100,7 +102,8 @@ pub fn isolated_node<C: Ledger>(served: Served<'_>, number: usize, steps: &mut S
 pub fn place_of_node<C: Ledger>(served: Served<'_>, number: usize, steps: &mut Steps<C>) -> usize
     requires { number < length (contents_of_view served).nodes }
     ensures within { result ≤ length (contents_of_view served.entry).faces }
-    ensures face { containing (served_map served.entry) (slice_index (contents_of_view served.entry).nodes number) ≡ Some (face_at_place (contents_of_view served.entry) result) }
+    ensures face { containing (served_map served.entry) (slice_index (contents_of_view served.entry).nodes number)
+        ≡ Some (face_at_place (contents_of_view served.entry) result) }
     ensures some_steps { steps.old + 1 ≤ steps.new }
     ensures cost { steps.new ≤ steps.old + (8 * line_digits (contents_of_view served.entry) + 28) }
 {

@@ -29,7 +29,9 @@ pub fn adjacent_walk<'a, C: Ledger>(
     ensures places { IfSome result (λ w. given_places w ≡ []) }
     ensures list { IfSome result (λ w. rest w ≡ adjacent (served_map served.entry) face.0) }
     ensures grows { steps.old ≤ steps.new }
-    ensures paid { MatchOption result (steps.new ≤ steps.old + most_words (served_map served.entry) 0 0) (λ w. steps.new + allowance w ≤ steps.old + most_words (served_map served.entry) (length (face_edges (served_map served.entry) face.0)) (length (rest w))) }
+    ensures paid { MatchOption result (steps.new ≤ steps.old + most_words (served_map served.entry) 0 0)
+        (λ w. steps.new + allowance w ≤ steps.old + most_words (served_map served.entry)
+        (length (face_edges (served_map served.entry) face.0)) (length (rest w))) }
 {
     let Some(place) = names::place_of(served, face, steps) else {
         return None;

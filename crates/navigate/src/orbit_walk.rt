@@ -69,8 +69,10 @@ impl<'a> OrbitWalk<'a> {
 
     /// The next position, which stays the next one, or None at the end.
     pub(crate) fn peek(&self) -> Option<usize>
-        ensures within { MatchOption result (positions_left self.now ≡ []) (λ p. p < length (contents_in self.now).code.a) }
-        ensures next { MatchOption result (positions_left self.now ≡ []) (λ p. positions_left self.now ≡ p ∷ drop 1 (positions_left self.now)) }
+        ensures within { MatchOption result (positions_left self.now ≡ [])
+            (λ p. p < length (contents_in self.now).code.a) }
+        ensures next { MatchOption result (positions_left self.now ≡ [])
+            (λ p. positions_left self.now ≡ p ∷ drop 1 (positions_left self.now)) }
     {
         if self.left == 0 { None } else { Some(self.at) }
     }
@@ -78,9 +80,12 @@ impl<'a> OrbitWalk<'a> {
     /// The next position, or None at the end.
     pub(crate) fn pass<C: Ledger>(&mut self, steps: &mut Steps<C>) -> Option<usize>
         ensures contents { contents_in self.new ≡ contents_in self.old }
-        ensures next { MatchOption result (positions_left self.old ≡ []) (λ p. positions_left self.old ≡ p ∷ positions_left self.new) }
-        ensures within { MatchOption result (positions_left self.new ≡ []) (λ p. p < length (contents_in self.old).code.a) }
-        ensures cost { MatchOption result (steps.new ≡ steps.old) (λ _. (steps.old + 1 ≤ steps.new) × (steps.new ≤ steps.old + (9 * line_digits (contents_in self.old) + 65))) }
+        ensures next { MatchOption result (positions_left self.old ≡ [])
+            (λ p. positions_left self.old ≡ p ∷ positions_left self.new) }
+        ensures within { MatchOption result (positions_left self.new ≡ [])
+            (λ p. p < length (contents_in self.old).code.a) }
+        ensures cost { MatchOption result (steps.new ≡ steps.old) (λ _. (steps.old + 1 ≤ steps.new)
+            × (steps.new ≤ steps.old + (9 * line_digits (contents_in self.old) + 65))) }
     {
         if self.left == 0 {
             return None;

@@ -14,7 +14,8 @@ use std::sync::ledger::Ledger;
 pub fn components_below<C: Ledger>(served: Served<'_>, place: usize, steps: &mut Steps<C>) -> usize
     ensures within { result ≤ length (contents_of_view served.entry).place_order }
     ensures before { (i : ℕ) → i < result → place_at (contents_of_view served.entry) i < place }
-    ensures from { (i : ℕ) → result ≤ i → i < length (contents_of_view served.entry).place_order → place ≤ place_at (contents_of_view served.entry) i }
+    ensures from { (i : ℕ) → result ≤ i → i < length (contents_of_view served.entry).place_order
+        → place ≤ place_at (contents_of_view served.entry) i }
     ensures grows { steps.old ≤ steps.new }
     ensures cost { steps.new ≤ steps.old + 4 * line_digits (contents_of_view served.entry) }
 {
@@ -36,7 +37,8 @@ pub fn components_below<C: Ledger>(served: Served<'_>, place: usize, steps: &mut
 pub fn isolated_below<C: Ledger>(served: Served<'_>, place: usize, steps: &mut Steps<C>) -> usize
     ensures within { result ≤ length (contents_of_view served.entry).isolated }
     ensures before { (i : ℕ) → i < result → slice_index (contents_of_view served.entry).isolated i < place }
-    ensures from { (i : ℕ) → result ≤ i → i < length (contents_of_view served.entry).isolated → place ≤ slice_index (contents_of_view served.entry).isolated i }
+    ensures from { (i : ℕ) → result ≤ i → i < length (contents_of_view served.entry).isolated
+        → place ≤ slice_index (contents_of_view served.entry).isolated i }
     ensures grows { steps.old ≤ steps.new }
     ensures cost { steps.new ≤ steps.old + 4 * line_digits (contents_of_view served.entry) }
 {
@@ -56,7 +58,8 @@ pub fn isolated_below<C: Ledger>(served: Served<'_>, place: usize, steps: &mut S
 /// The first position of the component at entry `j` of the order.
 pub fn start_at<C: Ledger>(served: Served<'_>, j: usize, steps: &mut Steps<C>) -> usize
     requires { j < length (contents_of_view served).place_order }
-    ensures start { result ≡ start_of (contents_of_view served.entry).code (slice_index (contents_of_view served.entry).place_order j) }
+    ensures start { result ≡ start_of (contents_of_view served.entry).code
+        (slice_index (contents_of_view served.entry).place_order j) }
     ensures within { result < length (contents_of_view served.entry).code.a }
     ensures some_steps { steps.old + 1 ≤ steps.new }
     ensures cost { steps.new ≤ steps.old + 4 }

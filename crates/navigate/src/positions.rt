@@ -68,7 +68,8 @@ fn first_position<C: Ledger>(
 ) -> Option<(usize, bool)>
     ensures known { is_some result ≡ has_signed_edge (served_map served.entry) edge }
     ensures within { IfSome result (λ found. found.0 < length (contents_of_view served.entry).code.a) }
-    ensures edge { IfSome result (λ found. signed_at (contents_of_view served.entry) (if found.1 then found.0 else mate (contents_of_view served.entry).code found.0) ≡ edge) }
+    ensures edge { IfSome result (λ found. signed_at (contents_of_view served.entry)
+        (if found.1 then found.0 else mate (contents_of_view served.entry).code found.0) ≡ edge) }
     ensures grows { steps.old ≤ steps.new }
     ensures least { IfSome result (λ _. steps.old + 1 ≤ steps.new) }
     ensures cost { steps.new ≤ steps.old + (18 * line_digits (contents_of_view served.entry) + 85) }
@@ -111,7 +112,8 @@ pub fn both_positions<C: Ledger>(
     steps: &mut Steps<C>,
 ) -> Option<(usize, usize)>
     ensures known { is_some result ≡ has_signed_edge (served_map served.entry) edge }
-    ensures within { IfSome result (λ pair. (pair.0 < length (contents_of_view served.entry).code.a) × (pair.1 < length (contents_of_view served.entry).code.a)) }
+    ensures within { IfSome result (λ pair. (pair.0 < length (contents_of_view served.entry).code.a)
+        × (pair.1 < length (contents_of_view served.entry).code.a)) }
     ensures edge { IfSome result (λ pair. signed_at (contents_of_view served.entry) pair.0 ≡ edge) }
     ensures mate { IfSome result (λ pair. pair.1 ≡ mate (contents_of_view served.entry).code pair.0) }
     ensures grows { steps.old ≤ steps.new }
@@ -132,7 +134,8 @@ pub fn both_positions<C: Ledger>(
 /// The place of the face on the left of a position: 0 for face 0, and else 1 + the number of the face.
 pub fn place_beside<C: Ledger>(served: Served<'_>, p: usize, steps: &mut Steps<C>) -> usize
     requires { p < length (contents_of_view served).code.a }
-    ensures place { result ≡ place_of_ring (contents_of_view served.entry) (ring_of (contents_of_view served.entry).code p) }
+    ensures place { result ≡ place_of_ring (contents_of_view served.entry)
+        (ring_of (contents_of_view served.entry).code p) }
     ensures within { result ≤ length (contents_of_view served.entry).faces }
     ensures some_steps { steps.old + 1 ≤ steps.new }
     ensures cost { steps.new ≤ steps.old + (6 * line_digits (contents_of_view served.entry) + 62) }

@@ -26,9 +26,11 @@ fn walk_from_smallest<'a, C: Ledger>(
     requires { p < length (contents_of_view served).code.a }
     ensures contents { contents_in result ≡ contents_of_view served.entry }
     ensures list { rest result ≡ from_smallest (contents_of_view served.entry) kind p }
-    ensures within { smallest_of (contents_of_view served.entry) kind p < length (contents_of_view served.entry).code.a }
+    ensures within { smallest_of (contents_of_view served.entry) kind p
+        < length (contents_of_view served.entry).code.a }
     ensures grows { steps.old ≤ steps.new }
-    ensures paid { steps.new + allowance result ≤ steps.old + 512 * line_digits (contents_of_view served.entry) * length (rest result) }
+    ensures paid { steps.new + allowance result
+        ≤ steps.old + 512 * line_digits (contents_of_view served.entry) * length (rest result) }
 {
     let first = smallest_from(served, kind, p, steps);
     OrbitWalk::from(served, kind, first)
@@ -44,7 +46,9 @@ pub fn node_walk<'a, C: Ledger>(
     ensures known { is_some result ≡ has_node (served_map served.entry) node.0 }
     ensures list { IfSome result (λ w. rest w ≡ node_edges (served_map served.entry) node.0) }
     ensures grows { steps.old ≤ steps.new }
-    ensures paid { MatchOption result (steps.new ≤ steps.old + most_words (served_map served.entry) 0 0) (λ w. steps.new + allowance w ≤ steps.old + most_words (served_map served.entry) (length (rest w)) (length (rest w))) }
+    ensures paid { MatchOption result (steps.new ≤ steps.old + most_words (served_map served.entry) 0 0)
+        (λ w. steps.new + allowance w ≤ steps.old + most_words (served_map served.entry) (length (rest w))
+        (length (rest w))) }
 {
     let Some(number) = names::node_number(served, node, steps) else {
         return None;
@@ -64,7 +68,9 @@ pub fn ring_walk<'a, C: Ledger>(
     ensures known { is_some result ≡ has_signed_edge (served_map served.entry) edge }
     ensures list { IfSome result (λ w. rest w ≡ ring_edges (served_map served.entry) edge) }
     ensures grows { steps.old ≤ steps.new }
-    ensures paid { MatchOption result (steps.new ≤ steps.old + most_words (served_map served.entry) 0 0) (λ w. steps.new + allowance w ≤ steps.old + most_words (served_map served.entry) (length (rest w)) (length (rest w))) }
+    ensures paid { MatchOption result (steps.new ≤ steps.old + most_words (served_map served.entry) 0 0)
+        (λ w. steps.new + allowance w ≤ steps.old + most_words (served_map served.entry) (length (rest w))
+        (length (rest w))) }
 {
     match positions::position_of(served, edge, steps) {
         Some(p) => Some(OrbitWalk::from(served, false, p)),

@@ -23,7 +23,8 @@ pub fn smallest_from<C: Ledger>(
     ensures smallest { result ≡ smallest_of (contents_of_view served.entry) kind p }
     ensures within { result < length (contents_of_view served.entry).code.a }
     ensures some_steps { steps.old + 1 ≤ steps.new }
-    ensures cost { steps.new ≤ steps.old + price (contents_of_view served.entry) * length (orbit (contents_of_view served.entry).code kind p) }
+    ensures cost { steps.new ≤ steps.old + price (contents_of_view served.entry)
+        * length (orbit (contents_of_view served.entry).code kind p) }
 {
     let mut walk = OrbitWalk::from(served, kind, p);
     let mut best = p;

@@ -31,11 +31,16 @@ pub fn to_unseen<C: Ledger>(
 ) -> usize
     requires room { length (contents_in ring.old).faces < room_of marks.now }
     ensures contents { contents_in ring.new ≡ contents_in ring.old }
-    ensures unseen { (seen : List ℕ) → ((j : ℕ) → is_marked marks.now j ≡ has seen j) → unseen (contents_in ring.old) place seen (face_positions ring.new) ≡ unseen (contents_in ring.old) place seen (face_positions ring.old) }
-    ensures stands { (seen : List ℕ) → ((j : ℕ) → is_marked marks.now j ≡ has seen j) → (p : ℕ) (ps : List ℕ) → face_positions ring.new ≡ p ∷ ps → IsUnseen (contents_in ring.old) place seen p result }
+    ensures unseen { (seen : List ℕ) → ((j : ℕ) → is_marked marks.now j ≡ has seen j)
+        → unseen (contents_in ring.old) place seen (face_positions ring.new)
+        ≡ unseen (contents_in ring.old) place seen (face_positions ring.old) }
+    ensures stands { (seen : List ℕ) → ((j : ℕ) → is_marked marks.now j ≡ has seen j) → (p : ℕ) (ps : List ℕ)
+        → face_positions ring.new ≡ p ∷ ps → IsUnseen (contents_in ring.old) place seen p result }
     ensures shorter { length (face_positions ring.new) ≤ length (face_positions ring.old) }
     ensures grows { steps.old ≤ steps.new }
-    ensures paid { steps.new + pass_price (contents_in ring.old) * length (face_positions ring.new) ≤ steps.old + (pass_price (contents_in ring.old) * length (face_positions ring.old) + (13 * line_digits (contents_in ring.old) + 123)) }
+    ensures paid { steps.new + pass_price (contents_in ring.old) * length (face_positions ring.new)
+        ≤ steps.old + (pass_price (contents_in ring.old) * length (face_positions ring.old)
+        + (13 * line_digits (contents_in ring.old) + 123)) }
 {
     while let Some(p) = ring.peek() {
         let across = ring.place_across(p, steps);
@@ -50,11 +55,15 @@ pub fn to_unseen<C: Ledger>(
 /// The same before any place is marked.
 pub fn to_other<C: Ledger>(ring: &mut FaceWalk<'_>, place: usize, steps: &mut Steps<C>) -> usize
     ensures contents { contents_in ring.new ≡ contents_in ring.old }
-    ensures unseen { unseen (contents_in ring.old) place [] (face_positions ring.new) ≡ unseen (contents_in ring.old) place [] (face_positions ring.old) }
-    ensures stands { (p : ℕ) (ps : List ℕ) → face_positions ring.new ≡ p ∷ ps → IsUnseen (contents_in ring.old) place [] p result }
+    ensures unseen { unseen (contents_in ring.old) place [] (face_positions ring.new)
+        ≡ unseen (contents_in ring.old) place [] (face_positions ring.old) }
+    ensures stands { (p : ℕ) (ps : List ℕ) → face_positions ring.new ≡ p ∷ ps
+        → IsUnseen (contents_in ring.old) place [] p result }
     ensures shorter { length (face_positions ring.new) ≤ length (face_positions ring.old) }
     ensures grows { steps.old ≤ steps.new }
-    ensures paid { steps.new + pass_price (contents_in ring.old) * length (face_positions ring.new) ≤ steps.old + (pass_price (contents_in ring.old) * length (face_positions ring.old) + (13 * line_digits (contents_in ring.old) + 123)) }
+    ensures paid { steps.new + pass_price (contents_in ring.old) * length (face_positions ring.new)
+        ≤ steps.old + (pass_price (contents_in ring.old) * length (face_positions ring.old)
+        + (13 * line_digits (contents_in ring.old) + 123)) }
 {
     while let Some(p) = ring.peek() {
         let across = ring.place_across(p, steps);

@@ -46,7 +46,8 @@ is_enclosing bits p i = is_open bits i && is_from p (close_of bits i)
 unfoldable pub innermost : List Bool → ℕ → Option ℕ
 innermost bits gap = find (is_enclosing bits gap) (falling gap)
 
--- the opening place of the innermost pair that is or encloses the pairs that open at i and at j: the one that opens last
+-- the opening place of the innermost pair that is or encloses the pairs that open at i and at j: the one that opens
+-- last
 unfoldable pub common_of : List Bool → ℕ → ℕ → Option ℕ
 common_of bits i j = find (λ k. is_enclosing bits i k && is_enclosing bits j k) (falling (min i j + 1))
 

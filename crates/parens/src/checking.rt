@@ -20,8 +20,10 @@ pub fn check_balanced<C: Ledger>(
     requires few { length (bits_of bits) ≤ 2147483647 }
     requires order { from ≤ to }
     requires within { to ≤ length (bits_of bits) }
-    ensures fault { MatchResult result (λ _. IsTrue (is_balanced (bits_of bits.entry) from to)) (λ place. balance_fault (bits_of bits.entry) from to ≡ Some place) }
-    ensures mates { MatchResult result (λ _. AreMated (bits_of bits.entry) from to) (IsFirstUnmatched (bits_of bits.entry) from to) }
+    ensures fault { MatchResult result (λ _. IsTrue (is_balanced (bits_of bits.entry) from to))
+        (λ place. balance_fault (bits_of bits.entry) from to ≡ Some place) }
+    ensures mates { MatchResult result (λ _. AreMated (bits_of bits.entry) from to)
+        (IsFirstUnmatched (bits_of bits.entry) from to) }
     ensures grows { steps.old ≤ steps.new }
     ensures cost { steps.new ≤ steps.old + (to - from) + 8 }
 {

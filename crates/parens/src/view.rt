@@ -156,7 +156,8 @@ impl<'a> ParenView<'a> {
     fn fall<C: Ledger>(&self, from: usize, to: usize, steps: &mut Steps<C>) -> u64
         requires order { from ≤ to }
         requires within { to ≤ length (parens_of self.now) }
-        ensures fall { pos result ≡ excess (parens_of self.now) from -ℤ least (excess (parens_of self.now)) from (to - from) }
+        ensures fall { pos result ≡ excess (parens_of self.now) from
+            -ℤ least (excess (parens_of self.now)) from (to - from) }
         ensures small { result ≤ from }
         ensures grows { steps.old ≤ steps.new }
         ensures cost { steps.new ≤ steps.old + 6 * digits (length (parens_of self.now) + 2) + 49 }

@@ -39,7 +39,9 @@ fn whole_words<'a>(bytes: &'a [u8]) -> Result<WordView<'a>, FileFault>
 
 /// Whether there are the words up to the counts, and the first is that of this kind of file.
 fn check_head<C: Ledger>(words: &WordView<'_>, steps: &mut Steps<C>) -> Result<(), FileFault>
-    ensures fault { Finds (unless (nat_le 11 (length (view_words words.now)) && (slice_index (view_words words.now) 0 == magic)) (FileFault.NotPemb (length (view_words words.now)))) result }
+    ensures fault { Finds (unless (nat_le 11 (length (view_words words.now))
+        && (slice_index (view_words words.now) 0 == magic)) (FileFault.NotPemb (length (view_words words.now))))
+        result }
     ensures long { OnOk result (11 ≤ length (view_words words.now)) }
     ensures grows { steps.old ≤ steps.new }
     ensures cost { steps.new ≤ steps.old + 1 }
@@ -56,7 +58,9 @@ fn check_head<C: Ledger>(words: &WordView<'_>, steps: &mut Steps<C>) -> Result<(
 /// The form of the file.
 fn form<C: Ledger>(words: &WordView<'_>, steps: &mut Steps<C>) -> Result<Form, FileFault>
     requires { 11 ≤ length (view_words words.now) }
-    ensures fault { Finds (unless ((slice_index (view_words words.now) 1 == 1) || (slice_index (view_words words.now) 1 == 2)) (FileFault.UnknownForm (slice_index (view_words words.now) 1))) result }
+    ensures fault { Finds (unless ((slice_index (view_words words.now) 1 == 1)
+        || (slice_index (view_words words.now) 1 == 2)) (FileFault.UnknownForm (slice_index (view_words words.now) 1)))
+        result }
     ensures form { IfOk result (λ form. number_of form ≡ slice_index (view_words words.now) 1) }
     ensures one_step { steps.new ≡ steps.old + 1 }
 {
@@ -69,7 +73,8 @@ fn form<C: Ledger>(words: &WordView<'_>, steps: &mut Steps<C>) -> Result<Form, F
 
 /// Whether there is a whole header.
 fn check_header(words: &WordView<'_>) -> Result<(), FileFault>
-    ensures fault { Finds (unless (nat_le header_words (length (view_words words.now))) (FileFault.Length header_words (length (view_words words.now)))) result }
+    ensures fault { Finds (unless (nat_le header_words (length (view_words words.now)))
+        (FileFault.Length header_words (length (view_words words.now)))) result }
     ensures long { OnOk result (15 ≤ length (view_words words.now)) }
 {
     let have = words.len() as u64;
@@ -103,7 +108,8 @@ fn header<C: Ledger>(words: &WordView<'_>, form: Form, steps: &mut Steps<C>) -> 
 
 /// Whether there are as many words as the counts ask for.
 fn check_length(words: &WordView<'_>, header: Header) -> Result<(), FileFault>
-    ensures { Finds (unless (length (view_words words.now) == file_words (counts_of_header header)) (FileFault.Length (file_words (counts_of_header header)) (length (view_words words.now)))) result }
+    ensures { Finds (unless (length (view_words words.now) == file_words (counts_of_header header))
+        (FileFault.Length (file_words (counts_of_header header)) (length (view_words words.now)))) result }
 {
     let want = header.file_words();
     let have = words.len() as u64;
@@ -194,7 +200,8 @@ pub(crate) fn open_header<'a, C: Ledger>(
     bytes: &'a [u8],
     steps: &mut Steps<C>,
 ) -> Result<Image<'a>, FileFault>
-    ensures fault { Finds (or_else (front_fault bytes.now) (or_else (digest_fault bytes.now) (count_fault (counts_in (words_of bytes.now))))) result }
+    ensures fault { Finds (or_else (front_fault bytes.now) (or_else (digest_fault bytes.now)
+        (count_fault (counts_in (words_of bytes.now))))) result }
     ensures words { IfOk result (λ image. view_words image.words ≡ words_of bytes.now) }
     ensures grows { steps.old ≤ steps.new }
     ensures cost { steps.new ≤ steps.old + 11 }

@@ -49,7 +49,8 @@ impl<'a> Image<'a> {
     /// The word that a section begins at.
     fn first_word(&self, number: u64) -> usize
         ensures from { result ≡ section_from (counts_in (words_of self.now.words)) number }
-        ensures within { result + section_words (section (counts_in (words_of self.now.words)) number) ≤ length (words_of self.now.words) }
+        ensures within { result + section_words (section (counts_in (words_of self.now.words)) number)
+            ≤ length (words_of self.now.words) }
     {
         let _words = self.words.len();
         self.header.first_word(number) as usize
@@ -98,10 +99,12 @@ impl<'a> Image<'a> {
 
     /// Whether the code is sound.
     pub(crate) fn check_code<C: Ledger>(&self, steps: &mut Steps<C>) -> Result<(), FileFault>
-        ensures fault { Finds (option_map FileFault.Sequence (seq_fault (contents_of (words_of self.now.words)).code)) result }
+        ensures fault { Finds (option_map FileFault.Sequence (seq_fault (contents_of (words_of self.now.words)).code))
+            result }
         ensures sound { OnOk result (IsTrue (is_sound (contents_of (words_of self.now.words)).code)) }
         ensures grows { steps.old ≤ steps.new }
-        ensures cost { steps.new ≤ steps.old + 16 * (counts_in (words_of self.now.words)).edges + 8 * (counts_in (words_of self.now.words)).components + 72 }
+        ensures cost { steps.new ≤ steps.old + 16 * (counts_in (words_of self.now.words)).edges
+            + 8 * (counts_in (words_of self.now.words)).components + 72 }
     {
         match turan_code::check(
             self.bits(1),
@@ -122,7 +125,8 @@ impl<'a> Image<'a> {
         steps: &mut Steps<C>,
     ) -> Result<(), WrongEntry>
         requires { IsTrue (is_directory number) }
-        ensures fault { Finds (first_wrong (counts_of (bits_at (words_of self.now.words) (number - 1))) (fields_at (words_of self.now.words) number)) result }
+        ensures fault { Finds (first_wrong (counts_of (bits_at (words_of self.now.words) (number - 1)))
+            (fields_at (words_of self.now.words) number)) result }
         ensures grows { steps.old ≤ steps.new }
         ensures cost { steps.new ≤ steps.old + (section (counts_in (words_of self.now.words)) (number - 1)).count + 8 }
     {
@@ -136,9 +140,11 @@ impl<'a> Image<'a> {
         steps: &mut Steps<C>,
     ) -> Result<(), WrongEntry>
         requires { IsTrue (is_tree number) }
-        ensures fault { Finds (first_wrong (nodes_of (bits_at (words_of self.now.words) (number - 2))) (part (words_of self.now.words) number)) result }
+        ensures fault { Finds (first_wrong (nodes_of (bits_at (words_of self.now.words) (number - 2)))
+            (part (words_of self.now.words) number)) result }
         ensures grows { steps.old ≤ steps.new }
-        ensures cost { steps.new ≤ steps.old + 4 * (section (counts_in (words_of self.now.words)) (number - 2)).count + 16 }
+        ensures cost { steps.new ≤ steps.old + 4 * (section (counts_in (words_of self.now.words)) (number - 2)).count
+            + 16 }
     {
         min_max_tree::check(self.bits(number - 2), self.part(number), steps)
     }
@@ -148,7 +154,8 @@ impl<'a> Image<'a> {
         requires { IsTrue (is_named number) }
         ensures names { names_of result ≡ names_at (words_of self.now.words) number }
         ensures fault { fault_of result ≡ names_fault (words_of self.now.words) number }
-        ensures count { length (fields_of result.places) ≡ (section (counts_in (words_of self.now.words)) (number + 4)).count }
+        ensures count { length (fields_of result.places)
+            ≡ (section (counts_in (words_of self.now.words)) (number + 4)).count }
         ensures sizes { HasSizes result }
     {
         NameParts {
@@ -171,16 +178,20 @@ impl<'a> Image<'a> {
         requires { IsTrue (is_named number) }
         ensures fault { Finds (names_fault (words_of self.now.words) number) result }
         ensures grows { steps.old ≤ steps.new }
-        ensures cost { steps.new ≤ steps.old + names_cost (section (counts_in (words_of self.now.words)) (number + 4)).count }
+        ensures cost { steps.new ≤ steps.old + names_cost (section (counts_in (words_of self.now.words))
+            (number + 4)).count }
     {
         id_names::check(self.names(number), steps)
     }
 
     /// Whether the counts and trees of the code's sequences are right.
     pub(crate) fn check_directories<C: Ledger>(&self, steps: &mut Steps<C>) -> Result<(), FileFault>
-        ensures fault { Finds (directories_fault (words_of self.now.words) (contents_of (words_of self.now.words)).code) result }
+        ensures fault { Finds (directories_fault (words_of self.now.words) (contents_of (words_of self.now.words)).code)
+            result }
         ensures grows { steps.old ≤ steps.new }
-        ensures cost { steps.new ≤ steps.old + 2 * (counts_in (words_of self.now.words)).edges + 10 * (counts_in (words_of self.now.words)).tree_edges + 10 * face_count (counts_in (words_of self.now.words)) + 56 }
+        ensures cost { steps.new ≤ steps.old + 2 * (counts_in (words_of self.now.words)).edges
+            + 10 * (counts_in (words_of self.now.words)).tree_edges
+            + 10 * face_count (counts_in (words_of self.now.words)) + 56 }
     {
         directory(2, self.check_counts(2, steps))?;
         directory(4, self.check_counts(4, steps))?;
@@ -193,7 +204,9 @@ impl<'a> Image<'a> {
     pub(crate) fn check_all_names<C: Ledger>(&self, steps: &mut Steps<C>) -> Result<(), FileFault>
         ensures fault { Finds (all_names_fault (words_of self.now.words)) result }
         ensures grows { steps.old ≤ steps.new }
-        ensures cost { steps.new ≤ steps.old + names_cost (node_count (counts_in (words_of self.now.words))) + names_cost (counts_in (words_of self.now.words)).edges + names_cost (face_count (counts_in (words_of self.now.words))) }
+        ensures cost { steps.new ≤ steps.old + names_cost (node_count (counts_in (words_of self.now.words)))
+            + names_cost (counts_in (words_of self.now.words)).edges
+            + names_cost (face_count (counts_in (words_of self.now.words))) }
     {
         name(30, self.check_names(30, steps))?;
         name(40, self.check_names(40, steps))?;
@@ -219,7 +232,9 @@ impl<'a> Image<'a> {
     pub(crate) fn check_regions<C: Ledger>(&self, steps: &mut Steps<C>) -> Result<(), FileFault>
         ensures fault { Finds (regions_fault (words_of self.now.words) (contents_of (words_of self.now.words))) result }
         ensures grows { steps.old ≤ steps.new }
-        ensures cost { steps.new ≤ steps.old + 12 * (counts_in (words_of self.now.words)).regions + names_cost (counts_in (words_of self.now.words)).regions + 2 * face_count (counts_in (words_of self.now.words)) + 36 }
+        ensures cost { steps.new ≤ steps.old + 12 * (counts_in (words_of self.now.words)).regions
+            + names_cost (counts_in (words_of self.now.words)).regions
+            + 2 * face_count (counts_in (words_of self.now.words)) + 36 }
     {
         let bits = self.bits(20);
         region(20, check_balanced(bits, 0, bits.len(), steps))?;
@@ -273,7 +288,8 @@ impl<'a> Image<'a> {
 
 /// A wrong entry of a directory of the code.
 fn directory(section: u64, found: Result<(), WrongEntry>) -> Result<(), FileFault>
-    ensures { (o : Option WrongEntry) → Finds o found → Finds (option_map (λ w. FileFault.Directory section w.at w.want w.found) o) result }
+    ensures { (o : Option WrongEntry) → Finds o found
+        → Finds (option_map (λ w. FileFault.Directory section w.at w.want w.found) o) result }
 {
     match found {
         Ok(()) => Ok(()),
@@ -341,7 +357,8 @@ fn region(section: u64, found: Result<(), u64>) -> Result<(), FileFault>
 
 /// A wrong entry of a directory of regions.
 fn region_entry(section: u64, found: Result<(), WrongEntry>) -> Result<(), FileFault>
-    ensures { (o : Option WrongEntry) → Finds o found → Finds (option_map (λ w. FileFault.RegionPart section w.at) o) result }
+    ensures { (o : Option WrongEntry) → Finds o found
+        → Finds (option_map (λ w. FileFault.RegionPart section w.at) o) result }
 {
     match found {
         Ok(()) => Ok(()),

@@ -47,7 +47,8 @@ fn paren_view<'a>(image: &Image<'a>, number: u64) -> ParenView<'a>
 /// The code.
 fn code_view<'a>(image: &Image<'a>) -> TuranView<'a>
     requires sound { IsTrue (is_sound (contents_of (view_words image.now.words)).code) }
-    requires directories { directories_fault (view_words image.now.words) (contents_of (view_words image.now.words)).code ≡ None }
+    requires directories { directories_fault (view_words image.now.words)
+        (contents_of (view_words image.now.words)).code ≡ None }
     ensures { code_of_view result ≡ (contents_of (view_words image.now.words)).code }
 {
     TuranView::new(TuranParts {
@@ -75,7 +76,8 @@ fn check_placed<C: Ledger>(
 ) -> Result<(), FileFault>
     requires code { code_of_view code ≡ (contents_of (view_words image.now.words)).code }
     requires names { all_names_fault (view_words image.now.words) ≡ None }
-    ensures fault { Finds (first_some (places_fault (contents_of (view_words image.now.words)) ∷ start_fault (contents_of (view_words image.now.words)) ∷ [])) result }
+    ensures fault { Finds (first_some (places_fault (contents_of (view_words image.now.words))
+        ∷ start_fault (contents_of (view_words image.now.words)) ∷ [])) result }
     ensures grows { steps.old ≤ steps.new }
     ensures cost { steps.new ≤ steps.old + placed_cost (counts_in (view_words image.now.words)) }
 {
@@ -121,7 +123,9 @@ fn content<'a, C: Ledger>(image: &Image<'a>, steps: &mut Steps<C>) -> Result<Ser
     ensures fault { Finds (content_fault (view_words image.now.words)) result }
     ensures contents { IfOk result (λ s. contents_of_view s ≡ contents_of (view_words image.now.words)) }
     ensures grows { steps.old ≤ steps.new }
-    ensures cost { steps.new ≤ steps.old + placed_cost (counts_in (view_words image.now.words)) + all_names_cost (counts_in (view_words image.now.words)) + 42 * (counts_in (view_words image.now.words)).edges + 12 * (counts_in (view_words image.now.words)).regions + 209 }
+    ensures cost { steps.new ≤ steps.old + placed_cost (counts_in (view_words image.now.words))
+        + all_names_cost (counts_in (view_words image.now.words)) + 42 * (counts_in (view_words image.now.words)).edges
+        + 12 * (counts_in (view_words image.now.words)).regions + 209 }
 {
     image.check_code(steps)?;
     image.check_directories(steps)?;
@@ -137,8 +141,10 @@ fn content<'a, C: Ledger>(image: &Image<'a>, steps: &mut Steps<C>) -> Result<Ser
 pub fn open<'a, C: Ledger>(bytes: &'a [u8], steps: &mut Steps<C>) -> Result<Served<'a>, FileFault>
     ensures fault { Finds (first_fault bytes.now) result }
     ensures contents { IfOk result (λ s. contents_of_view s ≡ contents_of (words_of bytes.now)) }
-    ensures cost { steps.new ≤ steps.old + 1024 * digits (file_size (counts_in (words_of bytes.now))) * ((file_size (counts_in (words_of bytes.now))) + 2) }
-    ensures few_words { IsSome (or_else (front_fault bytes.now) (or_else (digest_fault bytes.now) (count_fault (counts_in (words_of bytes.now))))) → steps.new ≤ steps.old + 16 }
+    ensures cost { steps.new ≤ steps.old + 1024 * digits (file_size (counts_in (words_of bytes.now)))
+        * ((file_size (counts_in (words_of bytes.now))) + 2) }
+    ensures few_words { IsSome (or_else (front_fault bytes.now) (or_else (digest_fault bytes.now)
+        (count_fault (counts_in (words_of bytes.now))))) → steps.new ≤ steps.old + 16 }
     ensures grows { steps.old ≤ steps.new }
 {
     let image = open_header(bytes, steps)?;

@@ -29,7 +29,8 @@ pub(crate) struct Placed<'a> {
     pub(crate) place_order: PackedView<'a>,
     pub(crate) isolated: PackedView<'a>,
     pub(crate) faces: NamesView<'a>,
-    ghost fits: { PlacedFits (contents_with (code_of_view code) (bits_of forward) (ids_of nodes) (ids_of edges) (ids_of faces) [] (fields_of places) (fields_of place_order) (fields_of isolated) [] []) },
+    ghost fits: { PlacedFits (contents_with (code_of_view code) (bits_of forward) (ids_of nodes) (ids_of edges)
+        (ids_of faces) [] (fields_of places) (fields_of place_order) (fields_of isolated) [] []) },
 }
 
 impl<'a> Placed<'a> {
@@ -93,7 +94,10 @@ impl<'a> Placed<'a> {
     /// Whether the place of a component is one, and no shell of an edge that does not begin before the component.
     fn is_placed<C: Ledger>(&self, component: usize, steps: &mut Steps<C>) -> bool
         requires { component < length (contents_of_placed self.now).places }
-        ensures placed { result ≡ (is_place (contents_of_placed self.now) (slice_index (contents_of_placed self.now).places component) && begins_before (contents_of_placed self.now) (slice_index (contents_of_placed self.now).places component) (start_of (contents_of_placed self.now).code component)) }
+        ensures placed { result ≡ (is_place (contents_of_placed self.now)
+            (slice_index (contents_of_placed self.now).places component)
+            && begins_before (contents_of_placed self.now) (slice_index (contents_of_placed self.now).places component)
+            (start_of (contents_of_placed self.now).code component)) }
         ensures grows { steps.old ≤ steps.new }
         ensures cost { steps.new ≤ steps.old + 12 * digits (length (contents_of_placed self.now).code.a + 2) + 50 }
     {
@@ -109,7 +113,8 @@ impl<'a> Placed<'a> {
     fn wrong_place<C: Ledger>(&self, steps: &mut Steps<C>) -> Option<usize>
         ensures place { result ≡ place_fault (contents_of_placed self.now) }
         ensures grows { steps.old ≤ steps.new }
-        ensures cost { steps.new ≤ steps.old + length (contents_of_placed self.now).places * (12 * digits (length (contents_of_placed self.now).code.a + 2) + 50) }
+        ensures cost { steps.new ≤ steps.old + length (contents_of_placed self.now).places
+            * (12 * digits (length (contents_of_placed self.now).code.a + 2) + 50) }
     {
         for component in 0..self.places.count() {
             if !self.is_placed(component, steps) {
@@ -138,7 +143,8 @@ impl<'a> Placed<'a> {
     /// Whether entry `j` of the order is a component, and follows the entry before it.
     fn is_ordered<C: Ledger>(&self, j: usize, steps: &mut Steps<C>) -> bool
         requires within { j < length (contents_of_placed self.now).place_order }
-        requires before { (k : ℕ) → k < j → slice_index (contents_of_placed self.now).place_order k < length (contents_of_placed self.now).places }
+        requires before { (k : ℕ) → k < j → slice_index (contents_of_placed self.now).place_order k
+            < length (contents_of_placed self.now).places }
         ensures ordered { result ≡ is_ordered (contents_of_placed self.now) j }
         ensures grows { steps.old ≤ steps.new }
         ensures cost { steps.new ≤ steps.old + 26 * digits (length (contents_of_placed self.now).code.a + 2) + 242 }
@@ -158,7 +164,8 @@ impl<'a> Placed<'a> {
     fn wrong_order<C: Ledger>(&self, steps: &mut Steps<C>) -> Option<usize>
         ensures order { result ≡ order_fault (contents_of_placed self.now) }
         ensures grows { steps.old ≤ steps.new }
-        ensures cost { steps.new ≤ steps.old + length (contents_of_placed self.now).places * (26 * digits (length (contents_of_placed self.now).code.a + 2) + 242) }
+        ensures cost { steps.new ≤ steps.old + length (contents_of_placed self.now).places
+            * (26 * digits (length (contents_of_placed self.now).code.a + 2) + 242) }
     {
         for j in 0..self.place_order.count() {
             if !self.is_ordered(j, steps) {
@@ -204,7 +211,8 @@ impl<'a> Placed<'a> {
     fn wrong_isolated<C: Ledger>(&self, steps: &mut Steps<C>) -> Option<usize>
         ensures isolated { result ≡ isolated_fault (contents_of_placed self.now) }
         ensures grows { steps.old ≤ steps.new }
-        ensures cost { steps.new ≤ steps.old + length (contents_of_placed self.now).isolated * (6 * digits (length (contents_of_placed self.now).nodes + 2) + 44) }
+        ensures cost { steps.new ≤ steps.old + length (contents_of_placed self.now).isolated
+            * (6 * digits (length (contents_of_placed self.now).nodes + 2) + 44) }
     {
         for j in 0..self.isolated.count() {
             if !self.is_isolated(j, steps) {
@@ -218,7 +226,10 @@ impl<'a> Placed<'a> {
     pub(crate) fn check_places<C: Ledger>(&self, steps: &mut Steps<C>) -> Result<(), FileFault>
         ensures fault { Finds (places_fault (contents_of_placed self.now)) result }
         ensures grows { steps.old ≤ steps.new }
-        ensures cost { steps.new ≤ steps.old + length (contents_of_placed self.now).places * (38 * digits (length (contents_of_placed self.now).code.a + 2) + 292) + length (contents_of_placed self.now).isolated * (6 * digits (length (contents_of_placed self.now).nodes + 2) + 44) }
+        ensures cost { steps.new ≤ steps.old + length (contents_of_placed self.now).places
+            * (38 * digits (length (contents_of_placed self.now).code.a + 2) + 292)
+            + length (contents_of_placed self.now).isolated
+            * (6 * digits (length (contents_of_placed self.now).nodes + 2) + 44) }
     {
         place(17, self.wrong_place(steps))?;
         place(18, self.wrong_order(steps))?;
@@ -234,7 +245,8 @@ impl<'a> Placed<'a> {
         steps: &mut Steps<C>,
     ) -> bool
         requires { p < length (contents_of_placed self.now).code.a }
-        ensures smaller { result ≡ (is_outer component (ring_of (contents_of_placed self.now).code p) && comes_before (signed_at (contents_of_placed self.now) p) than) }
+        ensures smaller { result ≡ (is_outer component (ring_of (contents_of_placed self.now).code p)
+            && comes_before (signed_at (contents_of_placed self.now) p) than) }
         ensures grows { steps.old ≤ steps.new }
         ensures cost { steps.new ≤ steps.old + 13 * digits (length (contents_of_placed self.now).code.a + 2) + 157 }
     {
@@ -265,7 +277,10 @@ impl<'a> Placed<'a> {
         requires { component < components_of_code (contents_of_placed self.now).code }
         ensures smallest { result ≡ is_smallest (contents_of_placed self.now) component }
         ensures grows { steps.old ≤ steps.new }
-        ensures cost { steps.new ≤ steps.old + (end_of (contents_of_placed self.now).code component - start_of (contents_of_placed self.now).code component) * (13 * digits (length (contents_of_placed self.now).code.a + 2) + 157) + (19 * digits (length (contents_of_placed self.now).code.a + 2) + 141) }
+        ensures cost { steps.new ≤ steps.old + (end_of (contents_of_placed self.now).code component
+            - start_of (contents_of_placed self.now).code component)
+            * (13 * digits (length (contents_of_placed self.now).code.a + 2) + 157)
+            + (19 * digits (length (contents_of_placed self.now).code.a + 2) + 141) }
     {
         let from = self.start(component, steps);
         let to = self.end(component, steps);
@@ -282,7 +297,10 @@ impl<'a> Placed<'a> {
     pub(crate) fn check_starts<C: Ledger>(&self, steps: &mut Steps<C>) -> Result<(), FileFault>
         ensures fault { Finds (start_fault (contents_of_placed self.now)) result }
         ensures grows { steps.old ≤ steps.new }
-        ensures cost { steps.new ≤ steps.old + length (contents_of_placed self.now).code.a * (13 * digits (length (contents_of_placed self.now).code.a + 2) + 157) + length (contents_of_placed self.now).places * (19 * digits (length (contents_of_placed self.now).code.a + 2) + 141) }
+        ensures cost { steps.new ≤ steps.old + length (contents_of_placed self.now).code.a
+            * (13 * digits (length (contents_of_placed self.now).code.a + 2) + 157)
+            + length (contents_of_placed self.now).places
+            * (19 * digits (length (contents_of_placed self.now).code.a + 2) + 141) }
     {
         for component in 0..self.places.count() {
             if !self.is_smallest(component, steps) {

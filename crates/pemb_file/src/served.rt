@@ -31,8 +31,9 @@ pub struct Served<'a> {
     isolated: PackedView<'a>,
     region_tree: ParenView<'a>,
     members: PackedView<'a>,
-    ghost whole: { IsTrue (is_whole (contents_with (code_of_view code) (bits_of forward) (ids_of nodes) (ids_of edges) (ids_of faces) (ids_of regions)
-        (fields_of places) (fields_of place_order) (fields_of isolated) (parens_of region_tree) (fields_of members))) },
+    ghost whole: { IsTrue (is_whole (contents_with (code_of_view code) (bits_of forward) (ids_of nodes) (ids_of edges)
+        (ids_of faces) (ids_of regions) (fields_of places) (fields_of place_order) (fields_of isolated)
+        (parens_of region_tree) (fields_of members))) },
 }
 
 impl<'a> Served<'a> {
@@ -61,8 +62,13 @@ impl<'a> Served<'a> {
         region_tree: ParenView<'a>,
         members: PackedView<'a>,
     ) -> Served<'a>
-        requires { IsTrue (is_whole (contents_with (code_of_view code) (bits_of forward) (ids_of nodes) (ids_of edges) (ids_of faces) (ids_of regions) (fields_of places) (fields_of place_order) (fields_of isolated) (parens_of region_tree) (fields_of members))) }
-        ensures { contents_of_view result ≡ contents_with (code_of_view code.entry) (bits_of forward.entry) (ids_of nodes.entry) (ids_of edges.entry) (ids_of faces.entry) (ids_of regions.entry) (fields_of places.entry) (fields_of place_order.entry) (fields_of isolated.entry) (parens_of region_tree.entry) (fields_of members.entry) }
+        requires { IsTrue (is_whole (contents_with (code_of_view code) (bits_of forward) (ids_of nodes) (ids_of edges)
+            (ids_of faces) (ids_of regions) (fields_of places) (fields_of place_order) (fields_of isolated)
+            (parens_of region_tree) (fields_of members))) }
+        ensures { contents_of_view result ≡ contents_with (code_of_view code.entry) (bits_of forward.entry)
+            (ids_of nodes.entry) (ids_of edges.entry) (ids_of faces.entry) (ids_of regions.entry)
+            (fields_of places.entry) (fields_of place_order.entry) (fields_of isolated.entry)
+            (parens_of region_tree.entry) (fields_of members.entry) }
     {
         Served {
             code,

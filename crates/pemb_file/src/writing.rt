@@ -96,7 +96,8 @@ fn all_names(alloc: Global, form: Form, parts: &ImageParts) -> Result<AllNames, 
 
 /// Puts the seven sections of names at the end.
 fn push_names(image: &mut Vec<u8>, names: NameWords) -> Result<(), Memory>
-    ensures { OnOk result ((form number : ℕ) (ids : List ℕ) → HoldNames form ids names → Written image.old.items image.new.items (with_names form number ids)) }
+    ensures { OnOk result ((form number : ℕ) (ids : List ℕ) → HoldNames form ids names
+        → Written image.old.items image.new.items (with_names form number ids)) }
 {
     push_words(image, &names.high)?;
     push_words(image, &names.high_counts)?;
@@ -125,7 +126,8 @@ fn push_code(alloc: Global, image: &mut Vec<u8>, parts: &ImageParts) -> Result<(
     requires walk { length parts.now.tree.items ≡ length parts.now.first.items }
     requires few { length parts.now.tree.items ≤ 2147483647 }
     requires few_starts { length parts.now.starts.items ≤ 2147483647 }
-    ensures { OnOk result (Written image.old.items image.new.items (code_sections (code_of parts.now.tree.items parts.now.first.items parts.now.starts.items))) }
+    ensures { OnOk result (Written image.old.items image.new.items
+        (code_sections (code_of parts.now.tree.items parts.now.first.items parts.now.starts.items))) }
 {
     let code = turan_code::make(alloc, &parts.tree, &parts.first, &parts.starts)?;
     push_words(image, &code.a)?;
@@ -148,7 +150,8 @@ fn push_sections(
 ) -> Result<(), Memory>
     requires walk { length parts.now.tree.items ≡ length parts.now.first.items }
     requires whole { IsTrue (is_whole (contents_of_parts parts.now)) }
-    ensures { OnOk result ((form : ℕ) → HoldAllNames form (contents_of_parts parts.now) names → Written image.old.items image.new.items (filled form (contents_of_parts parts.now))) }
+    ensures { OnOk result ((form : ℕ) → HoldAllNames form (contents_of_parts parts.now) names
+        → Written image.old.items image.new.items (filled form (contents_of_parts parts.now))) }
 {
     push_code(alloc, image, parts)?;
     push_bits(alloc, image, &parts.forward)?;

@@ -135,7 +135,8 @@ order_at m last before (x ∷ xs) e ordered (suc k) r h place at =
     let long = length-append before (x ∷ []) in
     order_at m last (before ++ x ∷ []) xs (e ∙ sym (append_assoc before (x ∷ []) xs)) ordered.1 k r h place (omega arith)
 
--- in any map each outer ring lies on face 0, or on the face of a ring that is no outer ring, in the component of an earlier one
+-- in any map each outer ring lies on face 0, or on the face of a ring that is no outer ring, in the component of an
+-- earlier one
 pub outer_order : (m : PlaneMap) → HasParts m → (place : ℕ) (r : ℤ) → slice_get (outer_rings m) place ≡ Some r → (side m r ≡ 0) ⊎ IsShellOfEarlier m (outer_rings m) place (side m r)
 outer_order m g place r h =
     order_at m (outer_rings m) [] (outer_rings m) refl (all_ordered m g.facts (outer_rings m) (length (components m)) (0 ∷ []) [] [] (begin_holds m) (begin_whose m) refl) place r h place (omega arith)

@@ -7,8 +7,8 @@ use Rattle.plane_model.specs.PlaneMap.{PlaneMap, side, rings, smallest}
 use Rattle.plane_model.specs.Component.{component, components}
 use Rattle.plane_model.specs.Worked.{edge, minus, tables, triangle_edges}
 
--- Some faces and some components, these by their smallest signed edges: face 0 is in, and along each ring its face is in
--- exactly where its component is.
+-- Some faces and some components, these by their smallest signed edges: face 0 is in, and along each ring its face is
+-- in exactly where its component is.
 pub record IsClosedAlongRings (m : PlaneMap) (faces : ℕ → Bool) (parts : ℤ → Bool) : Type 0 where
   pub face_0 : IsTrue (faces 0)
   pub along : (r : ℤ) → IsTrue (has_edge (rings m) r) → faces (side m r) ≡ parts (smallest r (component m r))

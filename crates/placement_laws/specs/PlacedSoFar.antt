@@ -1,4 +1,5 @@
--- Placing round by round: each face is entered once, and a round looks at the rings of the faces that are entered in it.
+-- Placing round by round: each face is entered once, and a round looks at the rings of the faces that are entered in
+-- it.
 use Rattle.std.specs.Prelude.{◌≡◌, ◌≤◌, ◌&&◌, ℕ, ℤ, not, IsTrue, List, ◌++◌, map, filter, length}
 use Rattle.plane_model.specs.Sets.{has, has_edge}
 use Rattle.plane_model.specs.PlaneMap.{PlaneMap, side, rings}
@@ -13,7 +14,8 @@ unreached m starts = length (filter (λ c. not (has_edge (of_components m starts
 abbrev pub round_starts : PlaneMap → List ℕ → List ℤ → List ℤ
 round_starts m front starts = filter (λ r. has front (side m r) && not (has_edge (of_components m starts) r)) (rings m)
 
--- before a round: the starts so far, the faces that are entered next, and those that were entered before; nothing computes how many rounds are left
+-- before a round: the starts so far, the faces that are entered next, and those that were entered before; nothing
+-- computes how many rounds are left
 pub record IsPlacedSoFar (m : PlaneMap) (left : ℕ) (front entered : List ℕ) (starts : List ℤ) : Type 0 where
   -- the outer rings are the starts so far and those of the rounds that are left
   pub rest : starts ++ reached_through left m front (of_components m starts) ≡ outer_rings m

@@ -1,4 +1,5 @@
--- What makes some rings the outer rings of a placed map: one for each component, in an order in which each has its place.
+-- What makes some rings the outer rings of a placed map: one for each component, in an order in which each has its
+-- place.
 use Rattle.std.specs.Prelude.{◌≡◌, ◌<◌, ◌⊎◌, ℕ, ℤ, IsTrue, IsFalse, List, map, slice_get, Some, nat_lt}
 use Rattle.std.specs.List.{list_all}
 use Rattle.plane_model.specs.Rows.{Rows}
@@ -30,7 +31,8 @@ pub record IsShellOfEarlier (m : PlaneMap) (starts : List ℤ) (place face : ℕ
   pub its_start : slice_get starts earlier ≡ Some start
   pub within : IsTrue (has_edge (component m start) shell)
 
--- some rings, the starts, are one for each component, the other rings are one for each face other than 0, and each start has its place before those inside
+-- some rings, the starts, are one for each component, the other rings are one for each face other than 0, and each
+-- start has its place before those inside
 pub record IsPlacing (m : PlaneMap) (starts : List ℤ) : Type 0 where
   -- the starts are rings, and each component has one
   pub among : (r : ℤ) → IsTrue (has_edge starts r) → IsTrue (has_edge (rings m) r)

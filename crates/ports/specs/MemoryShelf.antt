@@ -29,7 +29,8 @@ shelf_write_faults shelf = shelf.write_fault_count
 abbrev pub shelf_misses : MemoryShelf → ℕ
 shelf_misses shelf = shelf.miss_count
 
--- the first half of the bytes, rounded down, was put behind the name's; or that growth found no memory and is a second fault
+-- the first half of the bytes, rounded down, was put behind the name's; or that growth found no memory and is a second
+-- fault
 abbrev pub GainsHalf : List ℕ → List ℕ → MemoryShelf → MemoryShelf → Type 0
 GainsHalf name bytes before after = IsExtended name (take (length bytes / 2) bytes) (shelf_files before) (shelf_files after)
     ⊎ ((shelf_files after name ≡ shelf_files before name) × (one_more (one_more (shelf_write_faults before)) ≤ shelf_write_faults after))

@@ -32,7 +32,8 @@ abbrev pub IsNotHeld : Option Files → List ℕ → Type 0
 IsNotHeld None name = ⊤
 IsNotHeld (Some files) name = files name ≡ None
 
--- where the files are told, the name is held and this is a part of its bytes from a place on, empty with room for more only behind the last byte
+-- where the files are told, the name is held and this is a part of its bytes from a place on, empty with room for more
+-- only behind the last byte
 abbrev pub IsPartAt : Option Files → List ℕ → ℕ → ℕ → List ℕ → Type 0
 IsPartAt None name at room part = ⊤
 IsPartAt (Some files) name at room part = (bytes : List ℕ) × (files name ≡ Some bytes) × (part ≡ take (length part) (drop at bytes)) × (0 < room → length part ≡ 0 → length bytes ≤ at)

@@ -50,7 +50,8 @@ impl<'a> MemoryShelf<'a> {
     /// wanting nothing changes.
     pub fn add(&mut self, name: &str, bytes: &[u8]) -> Result<(), Memory>
         ensures held { OnOk result (shelf_files self.new name.now ≡ Some bytes.now) }
-        ensures others { OnOk result ((other : List ℕ) → other ≢ name.now → shelf_files self.new other ≡ shelf_files self.old other) }
+        ensures others { OnOk result ((other : List ℕ) → other ≢ name.now
+            → shelf_files self.new other ≡ shelf_files self.old other) }
         ensures kept { OnErr result (shelf_files self.new ≡ shelf_files self.old) }
         ensures same_failing { shelf_failing self.new ≡ shelf_failing self.old }
         ensures same_calls { shelf_calls self.new ≡ shelf_calls self.old }
@@ -72,7 +73,8 @@ impl<'a> MemoryShelf<'a> {
 
     /// The bytes under the name.
     pub fn file(&self, name: &str) -> Option<&[u8]>
-        ensures { MatchOption result (shelf_files self.now name.now ≡ None) (λ bytes. shelf_files self.now name.now ≡ Some bytes.now) }
+        ensures { MatchOption result (shelf_files self.now name.now ≡ None)
+            (λ bytes. shelf_files self.now name.now ≡ Some bytes.now) }
     {
         self.held.get(name).map(|bytes| bytes.as_slice())
     }
@@ -138,8 +140,10 @@ impl Shelf for MemoryShelf<'_> {
     /// from the place on allow, and leaves the rest of `into`.
     fn read_at(&mut self, name: &str, at: u64, into: &mut [u8]) -> Result<usize, ShelfFault>
         ensures within { IfOk result (λ k. k ≤ length into.new) }
-        ensures read { IfOk result (λ k. IsPartAt (Some (shelf_files self.old)) name.now at (length into.new) (take k into.new)) }
-        ensures count { IfOk result (λ k. IfSome (shelf_files self.old name.now) (λ bytes. k ≡ min (length into.new) (length bytes - at))) }
+        ensures read { IfOk result (λ k. IsPartAt (Some (shelf_files self.old)) name.now at (length into.new)
+            (take k into.new)) }
+        ensures count { IfOk result (λ k. IfSome (shelf_files self.old name.now)
+            (λ bytes. k ≡ min (length into.new) (length bytes - at))) }
         ensures rest { IfOk result (λ k. drop k into.new ≡ drop k into.old) }
         ensures no_fault { OnOk result (shelf_faults self.new ≡ shelf_faults self.old) }
         ensures no_miss { OnOk result (shelf_misses self.new ≡ shelf_misses self.old) }
@@ -151,7 +155,8 @@ impl Shelf for MemoryShelf<'_> {
         ensures failed { IsErrOf result ShelfFault.Failed → shelf_faults self.new ≡ one_more (shelf_faults self.old) }
         ensures failed_alone { IsErrOf result ShelfFault.Failed → shelf_misses self.new ≡ shelf_misses self.old }
 
-        ensures missing { IsErrOf result ShelfFault.Missing → shelf_misses self.new ≡ one_more (shelf_misses self.old) × (shelf_files self.old name.now ≡ None) }
+        ensures missing { IsErrOf result ShelfFault.Missing
+            → shelf_misses self.new ≡ one_more (shelf_misses self.old) × (shelf_files self.old name.now ≡ None) }
         ensures missing_alone { IsErrOf result ShelfFault.Missing → shelf_faults self.new ≡ shelf_faults self.old }
 
         ensures untouched { OnErr result (into.new ≡ into.old) }
@@ -198,11 +203,14 @@ impl Shelf for MemoryShelf<'_> {
     fn append(&mut self, name: &str, bytes: &[u8]) -> Result<(), Failed>
         requires { IsHeld (Some (shelf_files self.old)) name.now }
         ensures appended { OnOk result (IsExtended name.now bytes.now (shelf_files self.old) (shelf_files self.new)) }
-        ensures prefix { OnErr result (IsExtendedInPart name.now bytes.now (shelf_files self.old) (shelf_files self.new)) }
+        ensures prefix { OnErr result (IsExtendedInPart name.now bytes.now (shelf_files self.old)
+            (shelf_files self.new)) }
         ensures others { OthersStay name.now (shelf_files self.old) (shelf_files self.new) }
         ensures listed { Contains (shelf_failing self.old) (shelf_calls self.new) → IsErr result }
-        ensures half { Contains (shelf_failing self.old) (shelf_calls self.new) → GainsHalf name.now bytes.now self.old self.new }
-        ensures nothing { ¬ Contains (shelf_failing self.old) (shelf_calls self.new) → OnErr result (shelf_files self.new name.now ≡ shelf_files self.old name.now) }
+        ensures half { Contains (shelf_failing self.old) (shelf_calls self.new)
+            → GainsHalf name.now bytes.now self.old self.new }
+        ensures nothing { ¬ Contains (shelf_failing self.old) (shelf_calls self.new)
+            → OnErr result (shelf_files self.new name.now ≡ shelf_files self.old name.now) }
         ensures counted { CountsWrite result (shelf_write_faults self.old) (shelf_write_faults self.new) }
         ensures no_fault { shelf_faults self.new ≡ shelf_faults self.old }
         ensures no_miss { shelf_misses self.new ≡ shelf_misses self.old }

@@ -81,7 +81,8 @@ impl Sink for MemorySink<'_> {
 
         ensures listed { Contains (sink_failing self.old) (sink_calls self.new) → IsErr result }
         ensures half { Contains (sink_failing self.old) (sink_calls self.new) → GainsHalf self.old self.new bytes.now }
-        ensures nothing { ¬ Contains (sink_failing self.old) (sink_calls self.new) → OnErr result (sink_bytes self.new ≡ sink_bytes self.old) }
+        ensures nothing { ¬ Contains (sink_failing self.old) (sink_calls self.new)
+            → OnErr result (sink_bytes self.new ≡ sink_bytes self.old) }
 
         ensures calls { sink_calls self.new ≡ one_more (sink_calls self.old) }
         ensures same_failing { sink_failing self.new ≡ sink_failing self.old }

@@ -51,7 +51,8 @@ impl Source for MemorySource<'_> {
     /// piece, the room and the bytes left, and leaves the rest of `into`.
     fn take(&mut self, into: &mut [u8]) -> Result<usize, Failed>
         ensures within { IfOk result (λ k. k ≤ length into.new) }
-        ensures count { IfOk result (λ k. k ≡ min (source_piece self.old) (min (length into.new) (length (source_bytes self.old)))) }
+        ensures count { IfOk result (λ k. k ≡ min (source_piece self.old)
+            (min (length into.new) (length (source_bytes self.old)))) }
         ensures moved { IfOk result (λ k. Consumes (source_left self.old) (source_left self.new) (take k into.new)) }
         ensures rest { IfOk result (λ k. drop k into.new ≡ drop k into.old) }
         ensures end { IfOk result (λ k. IsEndAt (source_left self.old) (length into.new) k) }

@@ -52,10 +52,12 @@ impl<W: Write + Drop> Sink for StdSink<W> {
     /// Writes until the bytes are out. Where the writer's bytes are known,
     /// these come behind them.
     fn put(&mut self, bytes: &[u8]) -> Result<(), Failed>
-        ensures appended { OnOk result (Appends (W.contents (sink_writer self.old)) (W.contents (sink_writer self.new)) bytes.now) }
+        ensures appended { OnOk result (Appends (W.contents (sink_writer self.old))
+            (W.contents (sink_writer self.new)) bytes.now) }
         ensures no_fault { OnOk result (writer_faults self.new ≡ writer_faults self.old) }
         ensures failed { OnErr result (writer_faults self.new ≡ one_more (writer_faults self.old)) }
-        ensures prefix { OnErr result (GainsPart (W.contents (sink_writer self.old)) (W.contents (sink_writer self.new)) bytes.now) }
+        ensures prefix { OnErr result (GainsPart (W.contents (sink_writer self.old))
+            (W.contents (sink_writer self.new)) bytes.now) }
         ensures never_falls { writer_faults self.old ≤ writer_faults self.new }
     {
         if write_out(&mut self.writer, bytes) {

@@ -41,11 +41,13 @@ impl<R: Read + Drop> Source for StdSource<R> {
     /// Where the reader's bytes are known, they are the ones that are moved.
     fn take(&mut self, into: &mut [u8]) -> Result<usize, Failed>
         ensures within { IfOk result (λ k. k ≤ length into.new) }
-        ensures moved { IfOk result (λ k. Consumes (R.remaining (source_reader self.old)) (R.remaining (source_reader self.new)) (take k into.new)) }
+        ensures moved { IfOk result (λ k. Consumes (R.remaining (source_reader self.old))
+            (R.remaining (source_reader self.new)) (take k into.new)) }
         ensures end { IfOk result (λ k. k ≡ 0 → 0 < length into.new → IsAtEnd (R.remaining (source_reader self.new))) }
         ensures no_fault { OnOk result (reader_faults self.new ≡ reader_faults self.old) }
         ensures failed { OnErr result (reader_faults self.new ≡ one_more (reader_faults self.old)) }
-        ensures kept { OnErr result (Keeps (R.remaining (source_reader self.old)) (R.remaining (source_reader self.new))) }
+        ensures kept { OnErr result (Keeps (R.remaining (source_reader self.old))
+            (R.remaining (source_reader self.new))) }
         ensures never_falls { reader_faults self.old ≤ reader_faults self.new }
     {
         match self.reader.read(into) {

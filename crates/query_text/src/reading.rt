@@ -72,7 +72,8 @@ fn read_query(bytes: &[u8]) -> Option<Query>
 
 /// The bytes before the first space, and those behind it.
 fn split_word(bytes: &[u8]) -> (&[u8], Option<&[u8]>)
-    ensures { MatchOption result.1 (words bytes.now ≡ result.0.now ∷ []) (λ rest. words bytes.now ≡ result.0.now ∷ words rest.now) }
+    ensures { MatchOption result.1 (words bytes.now ≡ result.0.now ∷ [])
+        (λ rest. words bytes.now ≡ result.0.now ∷ words rest.now) }
 {
     match first_space(bytes) {
         Some(at) => (&bytes[..at], Some(&bytes[at + 1..])),

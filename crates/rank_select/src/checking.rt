@@ -21,7 +21,8 @@ pub fn check_counts<C: Ledger>(
     requires few { length (bits_of bits) ≤ 2147483647 }
     requires count { length (fields_of counts) ≡ blocks (length (bits_of bits)) + 1 }
     requires width { width_of counts ≡ 32 }
-    ensures checked { MatchResult result (λ _. fields_of counts.entry ≡ counts_of (bits_of bits.entry)) (IsFirstWrong (counts_of (bits_of bits.entry)) (fields_of counts.entry)) }
+    ensures checked { MatchResult result (λ _. fields_of counts.entry ≡ counts_of (bits_of bits.entry))
+        (IsFirstWrong (counts_of (bits_of bits.entry)) (fields_of counts.entry)) }
     ensures some_steps { steps.old + 1 ≤ steps.new }
     ensures cost { steps.new ≤ steps.old + length (bits_of bits.entry) + 8 }
 {

@@ -120,7 +120,8 @@ impl<'a> RankView<'a> {
         requires some { 0 < all }
         requires few { count ≤ length (counted self.now) }
         requires blocks { 0 < length (counted self.now) }
-        ensures share { result ≡ min (count * length (counted self.now) / all / 512) (blocks (length (counted self.now)) - 1) }
+        ensures share { result ≡ min (count * length (counted self.now) / all / 512)
+            (blocks (length (counted self.now)) - 1) }
     {
         let len = self.bits.len();
         (count * len / all / 512).min(len.div_ceil(512) - 1)

@@ -7,7 +7,8 @@ use Rattle.plane_model.specs.Regions.{parent}
 use Rattle.region_tree.specs.Ancestors.{ancestor}
 use Rattle.region_tree.specs.ByPlace.{AreByPlace}
 
--- a map's regions by place, none of them on a cycle, and its members as rows, each in a region that is there and no face twice
+-- a map's regions by place, none of them on a cycle, and its members as rows, each in a region that is there and no
+-- face twice
 pub record IsReady (m : PlaneMap) (ids : List ℕ) (parents : List (Option ℕ)) (members : List MemberRow) : Type 0 where
   pub regions : AreByPlace m ids parents
   pub inside : (r p : ℕ) → has m.regions.keys r ≡ true → parent m r ≡ Some p → has m.regions.keys p ≡ true

@@ -68,7 +68,8 @@ fn least(places: &[Option<u32>]) -> Option<u32>
 pub fn least_on_cycle(alloc: Global, parents: &[Option<u32>]) -> Result<Option<u32>, AllocError>
     requires few { length parents.now ≤ 16777216 }
     requires places { AreParentNumbers parents.now }
-    ensures { IfOk result (λ place. place ≡ find (comes_back (parent_at parents.now) (length parents.now)) (range_with_len 0 (length parents.now))) }
+    ensures { IfOk result (λ place. place ≡ find (comes_back (parent_at parents.now) (length parents.now))
+        (range_with_len 0 (length parents.now))) }
 {
     Ok(least(&far_up(alloc, parents)?))
 }

@@ -14,14 +14,22 @@ ghost use Rattle.region_tree.specs.Tables.{region_map, region_tables};
 
 /// The regions of a forest by number give its regions and members back.
 pub fn regions_given_back()
-    ensures regions { (t : Rows) → IsTrue (is_in_range t) → IsTrue (is_region_forest t) → RegionsAreNumbered (map_of t) (region_bits (map_of t)) (region_ids (map_of t)) }
-    ensures members { (t : Rows) → IsTrue (is_in_range t) → IsTrue (is_region_forest t) → AreMembers (map_of t) (region_ids (map_of t)) (member_places (map_of t)) }
+    ensures regions { (t : Rows) → IsTrue (is_in_range t) → IsTrue (is_region_forest t)
+        → RegionsAreNumbered (map_of t) (region_bits (map_of t)) (region_ids (map_of t)) }
+    ensures members { (t : Rows) → IsTrue (is_in_range t) → IsTrue (is_region_forest t)
+        → AreMembers (map_of t) (region_ids (map_of t)) (member_places (map_of t)) }
 {}
 
 /// Where regions are numbered, their chains are those of the map, and so is the first region of one chain in another.
 pub fn chains_by_number()
-    ensures chain { (m : PlaneMap) (bits : List Bool) (ids : List ℕ) (x : ℕ) → RegionsAreNumbered m bits ids → x < length ids → upward (length m.regions.keys) m (Some (slice_index ids x)) ≡ map (slice_index ids) (chain bits x) }
-    ensures common { (m : PlaneMap) (bits : List Bool) (ids : List ℕ) (x y : ℕ) → RegionsAreNumbered m bits ids → x < length ids → y < length ids → find (has (upward (length m.regions.keys) m (Some (slice_index ids y)))) (upward (length m.regions.keys) m (Some (slice_index ids x))) ≡ option_map (slice_index ids) (common_number bits x y) }
+    ensures chain { (m : PlaneMap) (bits : List Bool) (ids : List ℕ) (x : ℕ) → RegionsAreNumbered m bits ids
+        → x < length ids → upward (length m.regions.keys) m (Some (slice_index ids x))
+        ≡ map (slice_index ids) (chain bits x) }
+    ensures common { (m : PlaneMap) (bits : List Bool) (ids : List ℕ) (x y : ℕ) → RegionsAreNumbered m bits ids
+        → x < length ids → y < length ids
+        → find (has (upward (length m.regions.keys) m (Some (slice_index ids y))))
+        (upward (length m.regions.keys) m (Some (slice_index ids x)))
+        ≡ option_map (slice_index ids) (common_number bits x y) }
 {}
 
 /// The other tables make no difference to regions and members: neither to what is first wrong with them nor to their

@@ -32,11 +32,15 @@ pub fn build(
     ensures fine { OnOk result (region_fault (region_tables regions.now members.now faces.now) ≡ None) }
     ensures bits { IfOk result (λ p. p.bits.items ≡ region_bits (region_map regions.now members.now faces.now)) }
     ensures ids { IfOk result (λ p. p.ids.items ≡ region_ids (region_map regions.now members.now faces.now)) }
-    ensures members { IfOk result (λ p. p.members.items ≡ member_places (region_map regions.now members.now faces.now)) }
-    ensures numbered { IfOk result (λ p. RegionsAreNumbered (region_map regions.now members.now faces.now) p.bits.items p.ids.items) }
-    ensures faces { IfOk result (λ p. AreMembers (region_map regions.now members.now faces.now) p.ids.items p.members.items) }
+    ensures members { IfOk result (λ p. p.members.items ≡ member_places
+        (region_map regions.now members.now faces.now)) }
+    ensures numbered { IfOk result (λ p. RegionsAreNumbered (region_map regions.now members.now faces.now) p.bits.items
+        p.ids.items) }
+    ensures faces { IfOk result (λ p. AreMembers (region_map regions.now members.now faces.now) p.ids.items
+        p.members.items) }
     ensures refused { IfErr result (λ e. Names e (region_fault (region_tables regions.now members.now faces.now))) }
-    ensures exactly { is_none (region_fault (region_tables regions.now members.now faces.now)) ≡ is_region_forest (region_tables regions.now members.now faces.now) }
+    ensures exactly { is_none (region_fault (region_tables regions.now members.now faces.now))
+        ≡ is_region_forest (region_tables regions.now members.now faces.now) }
 {
     let hierarchy = check_regions(alloc, regions)?;
     check_members(alloc, &hierarchy.ids, members, faces)?;

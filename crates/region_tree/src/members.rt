@@ -91,8 +91,12 @@ pub fn check_members(
     requires rising { IsNonDecreasing ids.now }
     requires few_members { length members.now < 2 ^ 32 }
     requires few_faces { length faces.now ≤ 16777216 }
-    ensures fine { OnOk result ((regions : List RegionRow) → ids.now ≡ (region_map regions members.now faces.now).regions.keys → member_fault (region_tables regions members.now faces.now) ≡ None) }
-    ensures refused { IfErr result (λ e. (regions : List RegionRow) → ids.now ≡ (region_map regions members.now faces.now).regions.keys → Names e (member_fault (region_tables regions members.now faces.now))) }
+    ensures fine { OnOk result ((regions : List RegionRow) → ids.now
+        ≡ (region_map regions members.now faces.now).regions.keys
+        → member_fault (region_tables regions members.now faces.now) ≡ None) }
+    ensures refused { IfErr result (λ e. (regions : List RegionRow)
+        → ids.now ≡ (region_map regions members.now faces.now).regions.keys
+        → Names e (member_fault (region_tables regions members.now faces.now))) }
 {
     refuse(first_missing_region(ids, members))?;
     check_faces(alloc, members, faces)?;

@@ -52,9 +52,12 @@ pub fn number(
     requires few { length hierarchy.now.ids.items ≤ 16777216 }
     requires rising { IsNonDecreasing hierarchy.now.ids.items }
     requires ready { (m : PlaneMap) × IsReady m hierarchy.now.ids.items hierarchy.now.parents.items members.now }
-    ensures bits { IfOk result (λ p. (m : PlaneMap) → IsReady m hierarchy.now.ids.items hierarchy.now.parents.items members.now → p.bits.items ≡ region_bits m) }
-    ensures ids { IfOk result (λ p. (m : PlaneMap) → IsReady m hierarchy.now.ids.items hierarchy.now.parents.items members.now → p.ids.items ≡ region_ids m) }
-    ensures members { IfOk result (λ p. (m : PlaneMap) → IsReady m hierarchy.now.ids.items hierarchy.now.parents.items members.now → p.members.items ≡ member_places m) }
+    ensures bits { IfOk result (λ p. (m : PlaneMap) → IsReady m hierarchy.now.ids.items hierarchy.now.parents.items
+        members.now → p.bits.items ≡ region_bits m) }
+    ensures ids { IfOk result (λ p. (m : PlaneMap) → IsReady m hierarchy.now.ids.items hierarchy.now.parents.items
+        members.now → p.ids.items ≡ region_ids m) }
+    ensures members { IfOk result (λ p. (m : PlaneMap) → IsReady m hierarchy.now.ids.items hierarchy.now.parents.items
+        members.now → p.members.items ≡ member_places m) }
 {
     let slots = slots(alloc, &hierarchy.parents)?;
     let siblings = link(alloc, &slots)?;

@@ -29,7 +29,8 @@ pub fn region_ids(alloc: Global, rows: &[RegionRow]) -> Result<Vec<IdNumber>, Al
 pub fn place_of(ids: &[IdNumber], id: IdNumber) -> Option<u32>
     requires few { length ids.now ≤ 16777216 }
     requires rising { IsNonDecreasing ids.now }
-    ensures { MatchOption result (has ids.now id ≡ false) (λ place. (place < length ids.now) × (slice_index ids.now place ≡ id)) }
+    ensures { MatchOption result (has ids.now id ≡ false) (λ place. (place < length ids.now)
+        × (slice_index ids.now place ≡ id)) }
 {
     match ids.binary_search(&id) {
         Ok(place) => Some(place as u32),

@@ -290,7 +290,8 @@ fn parens_in<'a, C: Ledger>(image: &'a Image, steps: &mut Steps<C>) -> Option<Pa
 
 /// Whether no field is above a number.
 fn are_at_most<C: Ledger>(fields: PackedView<'_>, most: usize, steps: &mut Steps<C>) -> bool
-    ensures { IsTrue result → (k : ℕ) → k < length (fields_of fields.entry) → slice_index (fields_of fields.entry) k ≤ most }
+    ensures { IsTrue result → (k : ℕ) → k < length (fields_of fields.entry)
+        → slice_index (fields_of fields.entry) k ≤ most }
 {
     for place in 0..fields.count() {
         if fields.field(place, steps) > most as u64 {

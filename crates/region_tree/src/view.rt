@@ -40,8 +40,10 @@ impl<'a> RegionView<'a> {
     /// No word is read.
     pub fn new(tree: ParenView<'a>, names: NamesView<'a>, members: PackedView<'a>) -> RegionView<'a>
         requires count { rank true (parens_of tree) (length (parens_of tree)) ≡ length (ids_of names) }
-        requires fit { (k : ℕ) → k < length (fields_of members) → slice_index (fields_of members) k ≤ length (ids_of names) }
-        ensures { regions_of result ≡ record { bits = parens_of tree.entry; ids = ids_of names.entry; members = fields_of members.entry } }
+        requires fit { (k : ℕ) → k < length (fields_of members)
+            → slice_index (fields_of members) k ≤ length (ids_of names) }
+        ensures { regions_of result
+            ≡ record { bits = parens_of tree.entry; ids = ids_of names.entry; members = fields_of members.entry } }
     {
         RegionView {
             tree,
@@ -139,7 +141,9 @@ impl<'a> RegionView<'a> {
     /// The region that has this id, or None where no region has it.
     pub fn number_of<C: Ledger>(&self, id: IdNumber, steps: &mut Steps<C>) -> Option<usize>
         ensures number { result ≡ number_of (regions_of self.now).ids id }
-        ensures found { MatchOption result ((k : ℕ) → k < length (regions_of self.now).ids → slice_index (regions_of self.now).ids k ≢ id) (λ region. (region < length (regions_of self.now).ids) × (slice_index (regions_of self.now).ids region ≡ id)) }
+        ensures found { MatchOption result ((k : ℕ) → k < length (regions_of self.now).ids
+            → slice_index (regions_of self.now).ids k ≢ id) (λ region. (region < length (regions_of self.now).ids)
+            × (slice_index (regions_of self.now).ids region ≡ id)) }
         ensures grows { steps.old ≤ steps.new }
         ensures cost { steps.new ≤ steps.old + 12 * digits (length (regions_of self.now).ids + 2) + 60 }
     {
@@ -150,7 +154,8 @@ impl<'a> RegionView<'a> {
     pub fn number_at<C: Ledger>(&self, place: usize, steps: &mut Steps<C>) -> usize
         requires { place < length (regions_of self.now).ids }
         ensures within { result < length (regions_of self.now).ids }
-        ensures id { slice_index (regions_of self.now).ids result ≡ slice_index (rising (regions_of self.now).ids) place }
+        ensures id { slice_index (regions_of self.now).ids result
+            ≡ slice_index (rising (regions_of self.now).ids) place }
         ensures grows { steps.old ≤ steps.new }
         ensures cost { steps.new ≤ steps.old + 4 * digits (length (regions_of self.now).ids + 2) + 20 }
     {

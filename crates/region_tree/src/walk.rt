@@ -35,7 +35,8 @@ fn put(left: &mut Vec<Step>, place: Option<u32>) -> Result<(), AllocError>
 fn put_open(left: &mut Vec<Step>, siblings: &Siblings, place: u32) -> Result<(), AllocError>
     requires next { place < length siblings.now.next.items }
     requires first { place < length siblings.now.first.items }
-    ensures { OnOk result (IsOpened left.old.items left.new.items siblings.now.first.items siblings.now.next.items place) }
+    ensures { OnOk result (IsOpened left.old.items left.new.items siblings.now.first.items siblings.now.next.items
+        place) }
 {
     put(left, siblings.next[place as usize])?;
     left.push(Step::Close)?;

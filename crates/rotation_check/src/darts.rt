@@ -149,12 +149,14 @@ impl<'a> Darts<'a> {
     /// Whether the darts that leave the node of a row are more than one orbit.
     pub fn is_split(&self, row: usize, counts: &[u32], places: &[u32]) -> bool
         requires numbered { IsNumbered self.now }
-        requires ends { first_in (either_way (wrong_end (map_of_darts self.now))) self.now.tables.now.edges.items ≡ None }
+        requires ends { first_in (either_way (wrong_end (map_of_darts self.now))) self.now.tables.now.edges.items
+            ≡ None }
         requires once { next_twice (map_of_darts self.now) ≡ None }
         requires row { row < length self.now.tables.now.nodes.items }
         requires counts { AreCountsOfEach self.now.node.items (length self.now.tables.now.nodes.items) counts.now }
         requires places { ArePlacesOfEach self.now.node.items (length self.now.tables.now.nodes.items) places.now }
-        ensures { result ≡ not (is_one_orbit (map_of_darts self.now) (leaving (map_of_darts self.now) (node_id self.now.tables.now.nodes.items row))) }
+        ensures { result ≡ not (is_one_orbit (map_of_darts self.now)
+            (leaving (map_of_darts self.now) (node_id self.now.tables.now.nodes.items row))) }
     {
         counts[row] > 0 && self.round_length(places[row]) != counts[row]
     }
@@ -163,7 +165,8 @@ impl<'a> Darts<'a> {
     /// of them.
     pub fn least_split_node(&self, counts: &[u32], places: &[u32]) -> Option<Refusal>
         requires numbered { IsNumbered self.now }
-        requires ends { first_in (either_way (wrong_end (map_of_darts self.now))) self.now.tables.now.edges.items ≡ None }
+        requires ends { first_in (either_way (wrong_end (map_of_darts self.now))) self.now.tables.now.edges.items
+            ≡ None }
         requires once { next_twice (map_of_darts self.now) ≡ None }
         requires counts { AreCountsOfEach self.now.node.items (length self.now.tables.now.nodes.items) counts.now }
         requires places { ArePlacesOfEach self.now.node.items (length self.now.tables.now.nodes.items) places.now }

@@ -31,7 +31,8 @@ impl<'a> EdgeIndex<'a> {
         requires index { IsEdgeIndex self.now }
         requires few { length self.now.tables.now.edges.items ≤ 16_777_216 }
         requires signed { IsSignedEdge number }
-        ensures { MatchOption result (IsFalse (has (map (λ e. e.id) self.now.tables.now.edges.items) (edge_of number))) (IsDartOf self.now.tables.now.edges.items number) }
+        ensures { MatchOption result (IsFalse (has (map (λ e. e.id) self.now.tables.now.edges.items) (edge_of number)))
+            (IsDartOf self.now.tables.now.edges.items number) }
     {
         let row = self.rows.row_of(edge_id(number))?;
         Some(if is_forward(number) {
@@ -50,7 +51,8 @@ impl<'a> EdgeIndex<'a> {
         requires right { IsSignedEdge edge.now.next_right }
         ensures left { IfOk result (λ nexts. IsDartOf self.now.tables.now.edges.items edge.now.next_left nexts.0) }
         ensures right { IfOk result (λ nexts. IsDartOf self.now.tables.now.edges.items edge.now.next_right nexts.1) }
-        ensures fault { MatchResult result (λ _. no_edge_row (map_of (rows_of self.now.tables.now)) edge.now ≡ None) (λ e. no_edge_row (map_of (rows_of self.now.tables.now)) edge.now ≡ Some e) }
+        ensures fault { MatchResult result (λ _. no_edge_row (map_of (rows_of self.now.tables.now)) edge.now ≡ None)
+            (λ e. no_edge_row (map_of (rows_of self.now.tables.now)) edge.now ≡ Some e) }
     {
         let Some(left) = self.dart_of(edge.next_left) else {
             return Err(Refusal::NoEdge {
@@ -73,8 +75,10 @@ impl<'a> EdgeIndex<'a> {
         requires distinct { IsTrue (is_distinct (map (λ e. e.id) self.now.tables.now.edges.items)) }
         requires in_range { IsTrue (is_in_range (rows_of self.now.tables.now)) }
         ensures nexts { IfOk result (λ nexts. AreNexts self.now.tables.now.edges.items nexts.items) }
-        ensures fine { IfOk result (λ _. first_in (no_edge_row (map_of (rows_of self.now.tables.now))) self.now.tables.now.edges.items ≡ None) }
-        ensures fault { IfErr result (λ e. Names e (first_in (no_edge_row (map_of (rows_of self.now.tables.now))) self.now.tables.now.edges.items)) }
+        ensures fine { IfOk result (λ _. first_in (no_edge_row (map_of (rows_of self.now.tables.now)))
+            self.now.tables.now.edges.items ≡ None) }
+        ensures fault { IfErr result (λ e. Names e (first_in (no_edge_row (map_of (rows_of self.now.tables.now)))
+            self.now.tables.now.edges.items)) }
     {
         let edges = &self.tables.edges;
         let mut nexts = Vec::with_capacity(alloc, 2 * edges.len())?;

@@ -76,7 +76,8 @@ impl<'a> FaceIndex<'a> {
     /// The first node in a face that has no row.
     pub fn first_missing_container(&self) -> Option<Refusal>
         requires { IsFaceIndex self.now }
-        ensures { result ≡ first_in (no_containing_face (map_of (rows_of self.now.tables.now))) self.now.tables.now.nodes.items }
+        ensures { result ≡ first_in (no_containing_face (map_of (rows_of self.now.tables.now)))
+            self.now.tables.now.nodes.items }
     {
         for node in &self.tables.nodes {
             let fault = self.missing_container(node);

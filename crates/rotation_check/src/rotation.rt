@@ -6,7 +6,8 @@ use plane_model::Tables;
 use std::marker::Model;
 use topo_base::{IdNumber, Signed};
 
-/// A rotation system of borrowed tables. The edge of row `i`, from 0, has the dart `2 * i` forward and `2 * i + 1` backward.
+/// A rotation system of borrowed tables. The edge of row `i`, from 0, has the dart `2 * i` forward and `2 * i + 1`
+/// backward.
 #[derive(Drop)]
 pub struct Rotation<'a> {
     tables: &'a Tables,
@@ -23,7 +24,9 @@ impl<'a> Model for Rotation<'a> {
 
     ghost view = { λ r. rotation_rows (rows_of r.tables.now) };
 
-    ghost invariant = { λ r. IsRotation (rotation_rows (rows_of r.tables.now)) × AreNexts r.tables.now.edges.items r.next.items × AreNodes r.tables.now.nodes.items r.tables.now.edges.items r.node.items };
+    ghost invariant = { λ r. IsRotation (rotation_rows (rows_of r.tables.now))
+        × AreNexts r.tables.now.edges.items r.next.items
+        × AreNodes r.tables.now.nodes.items r.tables.now.edges.items r.node.items };
 }
 
 impl<'a> Rotation<'a> {
@@ -64,7 +67,8 @@ impl<'a> Rotation<'a> {
     pub fn next(&self, dart: u32) -> u32
         requires { dart < 2 * length self.now.edges }
         ensures within { result < 2 * length self.now.edges }
-        ensures next { signed_edge self.now.edges result ≡ next (map_of_rotation self.now) (signed_edge self.now.edges dart) }
+        ensures next { signed_edge self.now.edges result
+            ≡ next (map_of_rotation self.now) (signed_edge self.now.edges dart) }
     {
         self.next[dart as usize]
     }
@@ -73,7 +77,8 @@ impl<'a> Rotation<'a> {
     pub fn turn(&self, dart: u32) -> u32
         requires { dart < 2 * length self.now.edges }
         ensures within { result < 2 * length self.now.edges }
-        ensures turn { signed_edge self.now.edges result ≡ turn (map_of_rotation self.now) (signed_edge self.now.edges dart) }
+        ensures turn { signed_edge self.now.edges result
+            ≡ turn (map_of_rotation self.now) (signed_edge self.now.edges dart) }
     {
         self.next[reversed(dart) as usize]
     }
@@ -82,7 +87,8 @@ impl<'a> Rotation<'a> {
     pub fn node(&self, dart: u32) -> u32
         requires { dart < 2 * length self.now.edges }
         ensures within { result < length self.now.nodes }
-        ensures node { node_id self.now.nodes result ≡ origin (map_of_rotation self.now) (signed_edge self.now.edges dart) }
+        ensures node { node_id self.now.nodes result
+            ≡ origin (map_of_rotation self.now) (signed_edge self.now.edges dart) }
     {
         self.node[dart as usize]
     }

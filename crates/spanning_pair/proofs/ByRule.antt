@@ -1,4 +1,5 @@
--- What a walk by the rule is: each tree edge that it enters by it leaves by, in nested order, and it comes to each dart.
+-- What a walk by the rule is: each tree edge that it enters by it leaves by, in nested order, and it comes to each
+-- dart.
 use Rattle.std.proofs.Common.{◌≡◌, ◌≢◌, ℕ, zero, suc, ◌+◌, ◌-◌, ◌*◌, ◌<◌, ◌≤◌, ◌⊎◌, Bool, true, false, refl, sym, ◌∙◌, ap, subst, inl, inr, arith}
 use Rattle.std.proofs.lemmas.Bool.{cases_eq, cases_Bool, cases_lt, cases_order, false≢true}
 use Rattle.spanning_pair.specs.Darts.{reverse_dart, turn, turned, IsDartSystem, InComponent}

@@ -1,4 +1,5 @@
--- The nodes, edges and rings of a component by its walk: nodes − edges + rings is 2 exactly where the pairs of places nest.
+-- The nodes, edges and rings of a component by its walk: nodes − edges + rings is 2 exactly where the pairs of places
+-- nest.
 use Rattle.std.proofs.Common.{◌≡◌, ℕ, suc, ◌+◌, ◌-◌, ◌*◌, ◌/◌, ◌<◌, ◌≤◌, ◌⊎◌, ◌↔◌, inl, inr, ℤ, pos, negsuc, Bool, true, not, ◌&&◌, ◌==◌, List, ◌∷◌, map, filter, length, get_or, refl, sym, ap, ◌∙◌, subst, arith, eq-eqb}
 use Rattle.std.specs.List.{list_any}
 use Rattle.std.proofs.lemmas.Bool.{and_parts, and_from, or_left, or_right, cases_Bool, cases_eq, eqb-true}

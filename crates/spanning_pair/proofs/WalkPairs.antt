@@ -1,5 +1,5 @@
--- The places of a walk as pairs on a cycle: a place of a tree edge has no mate, and each other has the place of the reverse
--- dart. So the place after the mate of a place is where the next dart stands.
+-- The places of a walk as pairs on a cycle: a place of a tree edge has no mate, and each other has the place of the
+-- reverse dart. So the place after the mate of a place is where the next dart stands.
 use Rattle.std.proofs.Common.{◌≡◌, ℕ, ◌+◌, ◌-◌, ◌%◌, ◌<◌, ◌≤◌, ◌⊎◌, Bool, true, false, not, ◌&&◌, refl, sym, ◌∙◌, ap, inl, inr, arith}
 use Rattle.std.specs.Prelude.{nat_lt}
 use Rattle.std.proofs.lemmas.Bool.{cases_eq, cases_Bool, cases_lt, both_ways, lt-ltb, le-ltb}

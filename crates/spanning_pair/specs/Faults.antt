@@ -9,7 +9,8 @@ use Rattle.spanning_pair.specs.Crossings.{IsFirstCrossing}
 use Rattle.spanning_pair.specs.declared.TourFault.{TourFault}
 use Rattle.spanning_pair.specs.declared.TourFault.TheVariants.{Crossed, Memory}
 
--- the first crossing of the tour is where the edge of that id ends, whose component is not plane; want of memory says nothing
+-- the first crossing of the tour is where the edge of that id ends, whose component is not plane; want of memory says
+-- nothing
 abbrev pub IsTourFault : RotationRows → List ℕ → TourFault → Type 0
 IsTourFault r starts (Crossed edge) =
     (darts : List ℕ) × (tree : List Bool) × (first : List Bool) × (places : List ℕ) × (closing : ℕ)

@@ -40,7 +40,8 @@ pub record AreStarts (edges : ℕ) (next : ℕ → ℕ) (starts : List ℕ) : Ty
   pub apart : (i j : ℕ) → i < length starts → j < length starts → InComponent next (number_at starts i) (number_at starts j) → i ≡ j
   pub each : (d : ℕ) → d < 2 * edges → (i : ℕ) × (i < length starts) × InComponent next (number_at starts i) d
 
--- The tour: the walk of the component of each start, one after another. `places` has where each begins, and the whole length at its end.
+-- The tour: the walk of the component of each start, one after another. `places` has where each begins, and the whole
+-- length at its end.
 pub record IsTour (edges : ℕ) (next node : ℕ → ℕ) (starts darts : List ℕ) (tree first : List Bool) (places : List ℕ) : Type 0 where
   pub tree_len : length tree ≡ length darts
   pub first_len : length first ≡ length darts

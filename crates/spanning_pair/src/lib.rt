@@ -85,7 +85,8 @@ fn walk(
     tour: &mut Tour,
 ) -> Result<(), AllocError>
     requires rotation { IsRotation rotation.now }
-    requires system { IsNumberedSystem (length seen.old) (length visited.old) (next_dart rotation.now) (node_row rotation.now) }
+    requires system { IsNumberedSystem (length seen.old) (length visited.old) (next_dart rotation.now)
+        (node_row rotation.now) }
     requires seen_len { length seen.old ≡ length rotation.now.edges }
     requires visited_len { length visited.old ≡ length rotation.now.nodes }
     requires known_len { length known.old ≡ length seen.old }
@@ -93,9 +94,12 @@ fn walk(
     requires tree_len { length tour.old.tree.items ≡ length tour.old.darts.items }
     requires first_len { length tour.old.first.items ≡ length tour.old.darts.items }
     requires clean { AreClean (next_dart rotation.now) (node_row rotation.now) start seen.old visited.old }
-    ensures walk { OnOk result (IsWalkAppended (next_dart rotation.now) (node_row rotation.now) start tour.old.darts.items tour.old.tree.items tour.old.first.items tour.new.darts.items tour.new.tree.items tour.new.first.items) }
+    ensures walk { OnOk result (IsWalkAppended (next_dart rotation.now)
+        (node_row rotation.now) start tour.old.darts.items tour.old.tree.items tour.old.first.items tour.new.darts.items
+        tour.new.tree.items tour.new.first.items) }
     ensures starts { OnOk result (tour.new.starts.items ≡ tour.old.starts.items) }
-    ensures marks { OnOk result (AreMarkedInComponent (next_dart rotation.now) (node_row rotation.now) start seen.old visited.old seen.new visited.new) }
+    ensures marks { OnOk result (AreMarkedInComponent (next_dart rotation.now)
+        (node_row rotation.now) start seen.old visited.old seen.new visited.new) }
 {
     visited[tail_row(rotation, start) as usize] = true;
     let mut current = start;
@@ -120,7 +124,8 @@ fn walk(
 /// The walk of the component of each start, one after another.
 fn walks(alloc: Global, rotation: &Rotation, starts: &[u32]) -> Result<Tour, AllocError>
     requires starts { AreComponentStarts rotation.now starts.now }
-    ensures tour { IfOk result (λ t. IsTour (length rotation.now.edges) (next_dart rotation.now) (node_row rotation.now) starts.now t.darts.items t.tree.items t.first.items t.starts.items) }
+    ensures tour { IfOk result (λ t. IsTour (length rotation.now.edges) (next_dart rotation.now)
+        (node_row rotation.now) starts.now t.darts.items t.tree.items t.first.items t.starts.items) }
     ensures rotation { OnOk result (IsRotation rotation.now) }
 {
     let edges = rotation.edges() as usize;
@@ -160,7 +165,8 @@ fn crossing(
     requires pairs { ArePairs (number_at darts.now) (flag_at tree.now) (flag_at first.now) (length darts.now) }
     requires tree_len { length tree.now ≡ length darts.now }
     requires first_len { length first.now ≡ length darts.now }
-    ensures { IfOk result (λ o. MatchOption o (OthersNest (number_at darts.now) (flag_at tree.now) (length darts.now)) (λ d. IsFirstCrossing (number_at darts.now) (flag_at tree.now) (length darts.now) d)) }
+    ensures { IfOk result (λ o. MatchOption o (OthersNest (number_at darts.now) (flag_at tree.now) (length darts.now))
+        (λ d. IsFirstCrossing (number_at darts.now) (flag_at tree.now) (length darts.now) d)) }
 {
     let mut open: Vec<usize> = Vec::new(alloc);
     for place in 0..darts.len() {
@@ -181,8 +187,10 @@ fn crossing(
 /// entry of `starts`, a dart.
 pub fn tour(alloc: Global, rotation: &Rotation, starts: &[u32]) -> Result<Tour, TourFault>
     requires starts { AreComponentStarts rotation.now starts.now }
-    ensures tour { IfOk result (λ t. IsTheTour (length rotation.now.edges) (next_dart rotation.now) (node_row rotation.now) starts.now t.darts.items t.tree.items t.first.items t.starts.items) }
-    ensures nested { IfOk result (λ t. OthersNest (number_at t.darts.items) (flag_at t.tree.items) (length t.darts.items)) }
+    ensures tour { IfOk result (λ t. IsTheTour (length rotation.now.edges) (next_dart rotation.now)
+        (node_row rotation.now) starts.now t.darts.items t.tree.items t.first.items t.starts.items) }
+    ensures nested { IfOk result (λ t. OthersNest (number_at t.darts.items) (flag_at t.tree.items)
+        (length t.darts.items)) }
     ensures plane { IfOk result (λ t. IsTrue (is_plane (map_of_rotation rotation.now))) }
     ensures fault { IfErr result (IsTourFault rotation.now starts.now) }
     ensures never_crossed { IsTrue (is_plane (map_of_rotation rotation.now)) → IfErr result (λ e. e ≡ faults.Memory) }

@@ -36,7 +36,8 @@ fn path_edge(edge: IdNumber, edges: IdNumber) -> EdgeRow
 
 fn path_nodes(alloc: Global, nodes: u32) -> Result<Vec<NodeRow>, AllocError>
     requires { nodes ≤ 1000001 }
-    ensures in_range { IfOk result (λ rows. IsTrue (list_all (λ r. is_id r.id && is_none_or is_face_id r.face) rows.items)) }
+    ensures in_range { IfOk result (λ rows. IsTrue (list_all (λ r. is_id r.id
+        && is_none_or is_face_id r.face) rows.items)) }
     ensures len { IfOk result (λ rows. length rows.items ≡ nodes) }
 {
     let mut rows = Vec::new(alloc);

@@ -61,9 +61,11 @@ fn tables(
     edges: &[Edge],
     faces: &[IdNumber],
 ) -> Result<Tables, AllocError>
-    requires { IsTrue (is_in_range (tables nodes.now (map (λ e. edge e.0 e.1 e.2 e.3 e.4 e.5 e.6) edges.now) faces.now)) }
+    requires { IsTrue (is_in_range (tables nodes.now (map (λ e. edge e.0 e.1 e.2 e.3 e.4 e.5 e.6) edges.now)
+        faces.now)) }
     ensures in_range { IfOk result (λ t. IsTrue (is_in_range (rows_of t))) }
-    ensures rows { IfOk result (λ t. rows_of t ≡ tables nodes.now (map (λ e. edge e.0 e.1 e.2 e.3 e.4 e.5 e.6) edges.now) faces.now) }
+    ensures rows { IfOk result (λ t. rows_of t ≡ tables nodes.now
+        (map (λ e. edge e.0 e.1 e.2 e.3 e.4 e.5 e.6) edges.now) faces.now) }
 {
     Ok(Tables {
         nodes: node_rows(alloc, nodes)?,

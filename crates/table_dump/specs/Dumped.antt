@@ -52,7 +52,8 @@ pub record AreWritten (texts : List NamedText) (before after : Files) : Type 0 w
   pub held : AreHeld texts after
   pub others : AllOthersStay (names_of texts) before after
 
--- those before one of these files hold their text; that one holds what it held, or nothing, or a front of its text; all other names are as before
+-- those before one of these files hold their text; that one holds what it held, or nothing, or a front of its text; all
+-- other names are as before
 pub record AreWrittenInPart (texts : List NamedText) (before after : Files) : Type 0 where
   pub done : List NamedText
   pub at : NamedText

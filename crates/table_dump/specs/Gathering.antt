@@ -25,7 +25,8 @@ pub record ExtendsInPart (name bytes : List ℕ) (before after : Files) : Type 0
 abbrev pub Gains : List ℕ → Out → Out → List ℕ → Type 0
 Gains name before after bytes = (put : List ℕ) × (put ++ after.text ≡ before.text ++ bytes) × WhereTold (Extends name put) before.files after.files
 
--- on success these bytes were put or gathered, and the name is held; else only bytes at the front of what was to be put were put, and the shelf counted a failed write
+-- on success these bytes were put or gathered, and the name is held; else only bytes at the front of what was to be put
+-- were put, and the shelf counted a failed write
 pub record Writes {X E : Type 0} (result : Result X E) (name : List ℕ) (before after : Out) (bytes : List ℕ) : Type 0 where
   pub gained : OnOk result (Gains name before after bytes)
   pub held : OnOk result (IsHeld after.files name)

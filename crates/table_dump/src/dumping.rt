@@ -24,8 +24,10 @@ fn write_tables<H: Shelf, C: Ledger>(
     steps: &mut Steps<C>,
 ) -> Result<(), Failed>
     requires { AreApart (names_in names) }
-    ensures written { OnOk result (WhereTold (AreWritten (dumped_files names.entry (served_map served.entry))) (H.files shelf.old) (H.files shelf.new)) }
-    ensures part { OnErr result (WhereTold (AreWrittenInPart (dumped_files names.entry (served_map served.entry))) (H.files shelf.old) (H.files shelf.new)) }
+    ensures written { OnOk result (WhereTold (AreWritten (dumped_files names.entry (served_map served.entry)))
+        (H.files shelf.old) (H.files shelf.new)) }
+    ensures part { OnErr result (WhereTold (AreWrittenInPart (dumped_files names.entry (served_map served.entry)))
+        (H.files shelf.old) (H.files shelf.new)) }
     ensures counted { CountsWrite result (H.write_faults shelf.old) (H.write_faults shelf.new) }
     ensures no_fault { H.faults shelf.new ≡ H.faults shelf.old }
     ensures no_miss { H.misses shelf.new ≡ H.misses shelf.old }
@@ -52,8 +54,10 @@ pub fn dump<H: Shelf, C: Ledger>(
     steps: &mut Steps<C>,
 ) -> Result<(), DumpFault>
     requires { AreApart (names_in names) }
-    ensures written { OnOk result (WhereTold (AreWritten (dumped_files names.entry (served_map served.entry))) (H.files shelf.old) (H.files shelf.new)) }
-    ensures part { OnErr result (WhereTold (AreWrittenInPart (dumped_files names.entry (served_map served.entry))) (H.files shelf.old) (H.files shelf.new)) }
+    ensures written { OnOk result (WhereTold (AreWritten (dumped_files names.entry (served_map served.entry)))
+        (H.files shelf.old) (H.files shelf.new)) }
+    ensures part { OnErr result (WhereTold (AreWrittenInPart (dumped_files names.entry (served_map served.entry)))
+        (H.files shelf.old) (H.files shelf.new)) }
     ensures counted { CountsWrite result (H.write_faults shelf.old) (H.write_faults shelf.new) }
     ensures no_fault { H.faults shelf.new ≡ H.faults shelf.old }
     ensures no_miss { H.misses shelf.new ≡ H.misses shelf.old }

@@ -20,7 +20,8 @@ pub(crate) fn put_out<H: Shelf>(
     text: &mut Gathered,
 ) -> Result<(), Failed>
     requires { IsHeld (H.files shelf.old) name.now }
-    ensures writes { Writes result name.now (out_at (H.files shelf.old) (H.write_faults shelf.old) text.old.items) (out_at (H.files shelf.new) (H.write_faults shelf.new) text.new.items) [] }
+    ensures writes { Writes result name.now (out_at (H.files shelf.old) (H.write_faults shelf.old) text.old.items)
+        (out_at (H.files shelf.new) (H.write_faults shelf.new) text.new.items) [] }
     ensures empty { OnOk result (text.new.items ≡ []) }
     ensures no_fault { H.faults shelf.new ≡ H.faults shelf.old }
     ensures no_miss { H.misses shelf.new ≡ H.misses shelf.old }
@@ -42,7 +43,8 @@ fn make_room<H: Shelf>(
 ) -> Result<(), Failed>
     requires held { IsHeld (H.files shelf.old) name.now }
     requires some { room ≤ 65536 }
-    ensures writes { Writes result name.now (out_at (H.files shelf.old) (H.write_faults shelf.old) text.old.items) (out_at (H.files shelf.new) (H.write_faults shelf.new) text.new.items) [] }
+    ensures writes { Writes result name.now (out_at (H.files shelf.old) (H.write_faults shelf.old) text.old.items)
+        (out_at (H.files shelf.new) (H.write_faults shelf.new) text.new.items) [] }
     ensures room { OnOk result (length text.new.items + room ≤ 65536) }
     ensures no_fault { H.faults shelf.new ≡ H.faults shelf.old }
     ensures no_miss { H.misses shelf.new ≡ H.misses shelf.old }
@@ -63,7 +65,8 @@ pub(crate) fn gather<H: Shelf>(
 ) -> Result<(), Failed>
     requires short { length bytes.now ≤ 256 }
     requires held { IsHeld (H.files shelf.old) name.now }
-    ensures writes { Writes result name.now (out_at (H.files shelf.old) (H.write_faults shelf.old) text.old.items) (out_at (H.files shelf.new) (H.write_faults shelf.new) text.new.items) bytes.now }
+    ensures writes { Writes result name.now (out_at (H.files shelf.old) (H.write_faults shelf.old) text.old.items)
+        (out_at (H.files shelf.new) (H.write_faults shelf.new) text.new.items) bytes.now }
     ensures no_fault { H.faults shelf.new ≡ H.faults shelf.old }
     ensures no_miss { H.misses shelf.new ≡ H.misses shelf.old }
 {

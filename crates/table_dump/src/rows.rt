@@ -89,7 +89,8 @@ pub(crate) fn face_row<C: Ledger>(served: Served<'_>, place: usize, steps: &mut 
 /// The id of the region that the region of a number lies in, where it lies in one.
 fn parent_id<C: Ledger>(served: Served<'_>, region: usize, steps: &mut Steps<C>) -> Option<IdNumber>
     requires { region < length (contents_of_view served).regions }
-    ensures parent { result ≡ option_map (slice_index (contents_of_view served.entry).regions) (parent_number (contents_of_view served.entry).region_bits region) }
+    ensures parent { result ≡ option_map (slice_index (contents_of_view served.entry).regions)
+        (parent_number (contents_of_view served.entry).region_bits region) }
     ensures grows { steps.old ≤ steps.new }
     ensures cost { steps.new ≤ steps.old + (10 * line_digits (contents_of_view served.entry) + 81) }
 {
@@ -122,8 +123,10 @@ pub(crate) fn region_row<C: Ledger>(
 /// Where the face at a place stands by number, face 0 before all others: 0 for face 0, and else 1 + the number.
 fn face_place<C: Ledger>(served: Served<'_>, place: usize, steps: &mut Steps<C>) -> usize
     requires { place ≤ length (contents_of_view served).faces }
-    ensures place { result ≡ place_of_face (contents_of_view served.entry) (face_with_zero (contents_of_view served.entry) place) }
-    ensures face { face_at_place (contents_of_view served.entry) result ≡ face_with_zero (contents_of_view served.entry) place }
+    ensures place { result ≡ place_of_face (contents_of_view served.entry)
+        (face_with_zero (contents_of_view served.entry) place) }
+    ensures face { face_at_place (contents_of_view served.entry) result
+        ≡ face_with_zero (contents_of_view served.entry) place }
     ensures within { result ≤ length (contents_of_view served.entry).faces }
     ensures grows { steps.old ≤ steps.new }
     ensures cost { steps.new ≤ steps.old + (4 * line_digits (contents_of_view served.entry) + 20) }

@@ -76,15 +76,18 @@ pub(crate) fn write_table<H: Shelf, C: Ledger>(
     steps: &mut Steps<C>,
 ) -> Result<(), Failed>
     requires { text.old.items ≡ [] }
-    ensures written { OnOk result (WhereTold (Holds name.now (table_text (served_map served.entry) table)) (H.files shelf.old) (H.files shelf.new)) }
-    ensures part { OnErr result (WhereTold (HoldsFront name.now (table_text (served_map served.entry) table)) (H.files shelf.old) (H.files shelf.new)) }
+    ensures written { OnOk result (WhereTold (Holds name.now (table_text (served_map served.entry) table))
+        (H.files shelf.old) (H.files shelf.new)) }
+    ensures part { OnErr result (WhereTold (HoldsFront name.now (table_text (served_map served.entry) table))
+        (H.files shelf.old) (H.files shelf.new)) }
     ensures counted { CountsWrite result (H.write_faults shelf.old) (H.write_faults shelf.new) }
     ensures empty { OnOk result (text.new.items ≡ []) }
     ensures no_fault { H.faults shelf.new ≡ H.faults shelf.old }
     ensures no_miss { H.misses shelf.new ≡ H.misses shelf.old }
     ensures least { OnOk result (steps.old + row_count (contents_of_view served.entry) table ≤ steps.new) }
     ensures grows { steps.old ≤ steps.new }
-    ensures paid { steps.new ≤ steps.old + row_count (contents_of_view served.entry) table * row_price (contents_of_view served.entry) table }
+    ensures paid { steps.new ≤ steps.old + row_count (contents_of_view served.entry) table
+        * row_price (contents_of_view served.entry) table }
 {
     shelf.start(name)?;
     gather(shelf, name, text, header(table))?;

@@ -20,7 +20,8 @@ tables_read text = do
   members ← member_rows (text table.Member)
   Ok (record { nodes = nodes; edges = edges; faces = faces; regions = regions; members = members })
 
--- the texts of the map of some tables read as tables that describe the same map, are in range, and are consistent exactly where those are
+-- the texts of the map of some tables read as tables that describe the same map, are in range, and are consistent
+-- exactly where those are
 pub record ReadsBack (t back : Rows) : Type 0 where
   pub reads : tables_read (table_text (map_of t)) ≡ Ok back
   pub same : Same back t

@@ -1,4 +1,5 @@
--- How numbers are spelled: plain decimal digits, with no sign but a '-', no leading zero, and none above the greatest id.
+-- How numbers are spelled: plain decimal digits, with no sign but a '-', no leading zero, and none above the greatest
+-- id.
 use Rattle.std.specs.Prelude.{ℕ, ◌+◌, ◌*◌, ◌-◌, ℤ, pos, neg_ℤ, ◌&&◌, nat_lt, nat_le, slice_index, length, ◌==◌, if◌then◌else◌, List, [], ◌∷◌, Option, Some, None, option_map, option_and_then}
 use Rattle.std.specs.Char.{is_ascii_digit}
 use Rattle.topo_base.specs.declared.id.TheConstants.{LARGEST_ID}

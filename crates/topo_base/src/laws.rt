@@ -33,6 +33,7 @@ pub fn signed_edge_order()
     ensures by_id { (d e : ℤ) → edge_of d < edge_of e → IsTrue (comes_before d e) }
     ensures forward_first { (n : ℕ) → 1 ≤ n → IsTrue (comes_before (pos n) (reverse (pos n))) }
     ensures irreflexive { (d : ℤ) → IsFalse (comes_before d d) }
-    ensures transitive { (d e f : ℤ) → IsTrue (comes_before d e) → IsTrue (comes_before e f) → IsTrue (comes_before d f) }
+    ensures transitive { (d e f : ℤ) → IsTrue (comes_before d e) → IsTrue (comes_before e f)
+        → IsTrue (comes_before d f) }
     ensures total { (d e : ℤ) → d ≢ e → IsTrue (comes_before d e) ⊎ IsTrue (comes_before e d) }
 {}

@@ -173,7 +173,8 @@ pub record HoldsSuch (IsSuch : List ℕ → Type 0) (name : List ℕ) (before af
   pub held : after name ≡ Some image
   pub others : OthersStay name before after
 
--- a name holds what it held, or nothing, or a part of an image such as this from its first byte on, and all other names are as before
+-- a name holds what it held, or nothing, or a part of an image such as this from its first byte on, and all other names
+-- are as before
 pub record HoldsPartOfSuch (IsSuch : List ℕ → Type 0) (name : List ℕ) (before after : Files) : Type 0 where
   pub image : List ℕ
   pub is : IsSuch image
@@ -252,7 +253,8 @@ LeavesFiles c s (Some (Form.Dump file dir)) = LeavesWritten c (Form.Dump file di
 abbrev pub words_to_open : PlaneMap → ℕ
 words_to_open m = 1024 * digits (size m) * (size m + 2)
 
--- all of the script was taken, and answered from a map; words were read for each item but those of `counts`, and as many as the lines allow
+-- all of the script was taken, and answered from a map; words were read for each item but those of `counts`, and as
+-- many as the lines allow
 pub record IsAnswered (c : Call) (m : PlaneMap) (script : List ℕ) : Type 0 where
   pub whole : IsReadToEnd c.script.left_before c.script.left_after
   pub short : length script ≤ most_bytes

@@ -117,7 +117,8 @@ dumped_line m = counts_line (codes "dumped") m
 abbrev pub number_line : List ℕ → ℕ → List ℕ
 number_line word n = word ++ codes " " ++ decimal n ++ 10 ∷ []
 
--- what `trial` writes of the map of a grid: its size, its counts, and how many items the questions on all its faces and nodes have
+-- what `trial` writes of the map of a grid: its size, its counts, and how many items the questions on all its faces and
+-- nodes have
 abbrev pub trial_text : ℕ → PlaneMap → List ℕ
 trial_text n m =
     number_line (codes "trial") n

@@ -20,7 +20,8 @@ pub fn append_number(text: &mut Vec<u8>, number: IdNumber) -> Result<(), AllocEr
 
 /// A word and five counts.
 fn line_of_numbers(alloc: Global, word: &str, counts: Counts) -> Result<Vec<u8>, AllocError>
-    ensures { IfOk result (λ line. line.items ≡ word.now ++ flat_map item_text (map Item.Number (five counts)) ++ 10 ∷ []) }
+    ensures { IfOk result (λ line. line.items ≡ word.now ++ flat_map item_text (map Item.Number (five counts))
+        ++ 10 ∷ []) }
 {
     let mut line = Vec::new(alloc);
     line.extend_from_slice(word.as_bytes())?;

@@ -52,8 +52,10 @@ pub fn write_tables<H: Shelf, L: Ledger>(
     steps: &mut Steps<L>,
 ) -> Result<(), Failed>
     requires { AreTableNames dir.now names.now }
-    ensures written { OnOk result (WhereTold (AreWritten (folder_of dir.now (served_map served.entry))) (H.files shelf.old) (H.files shelf.new)) }
-    ensures part { OnErr result (WhereTold (AreWrittenInPart (folder_of dir.now (served_map served.entry))) (H.files shelf.old) (H.files shelf.new)) }
+    ensures written { OnOk result (WhereTold (AreWritten (folder_of dir.now (served_map served.entry)))
+        (H.files shelf.old) (H.files shelf.new)) }
+    ensures part { OnErr result (WhereTold (AreWrittenInPart (folder_of dir.now (served_map served.entry)))
+        (H.files shelf.old) (H.files shelf.new)) }
     ensures rose { OnErr result (Rose (H.write_faults shelf.old) (H.write_faults shelf.new)) }
     ensures least { OnOk result (steps.old + length (served_map served.entry).edges.keys ≤ steps.new) }
     ensures most { steps.new ≤ steps.old + most_dump_words (served_map served.entry) }

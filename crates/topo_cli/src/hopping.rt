@@ -56,7 +56,8 @@ fn append_walk<L: Ledger>(
     walk: &mut HopWalk<'_, '_>,
     steps: &mut Steps<L>,
 ) -> Result<(), AllocError>
-    ensures text { OnOk result (line.new.items ≡ line.old.items ++ flat_map item_text (map Number (moves_of walk.old ∷ rest walk.old)) ++ 10 ∷ []) }
+    ensures text { OnOk result (line.new.items ≡ line.old.items ++ flat_map item_text
+        (map Number (moves_of walk.old ∷ rest walk.old)) ++ 10 ∷ []) }
     ensures least { OnOk result (steps.old + length (rest walk.old) ≤ steps.new + 1) }
     ensures most { steps.new ≤ steps.old + allowance walk.old }
     ensures grows { steps.old ≤ steps.new }
@@ -77,7 +78,8 @@ pub fn hops_line<L: Ledger>(
     steps: &mut Steps<L>,
 ) -> Result<Vec<u8>, AllocError>
     ensures line { IfOk result (λ line. line.items ≡ hops_line (served_map served.entry) from.0 to.0) }
-    ensures least { OnOk result (IsTrue (has_both_faces (served_map served.entry) from.0 to.0) → steps.old + moves_between (served_map served.entry) from.0 to.0 ≤ steps.new) }
+    ensures least { OnOk result (IsTrue (has_both_faces (served_map served.entry) from.0 to.0)
+        → steps.old + moves_between (served_map served.entry) from.0 to.0 ≤ steps.new) }
     ensures most { steps.new ≤ steps.old + most_hop_words (served_map served.entry) }
     ensures grows { steps.old ≤ steps.new }
 {

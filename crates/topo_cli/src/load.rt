@@ -84,7 +84,8 @@ pub fn held_bytes<H: Shelf>(
     ensures short { IfOk result (λ bytes. length bytes.items ≤ most_bytes) }
     ensures named { IfErr result (NamesOnly (string_bytes name)) }
     ensures stopped { IfErr result (IsStopped (H.files shelf.old) (string_bytes name)) }
-    ensures shown { IfErr result (λ e. ShowsInCounts e (H.misses shelf.old) (H.misses shelf.new) (H.faults shelf.old) (H.faults shelf.new)) }
+    ensures shown { IfErr result (λ e. ShowsInCounts e (H.misses shelf.old) (H.misses shelf.new) (H.faults shelf.old)
+        (H.faults shelf.new)) }
     ensures kept { H.files shelf.new ≡ H.files shelf.old }
     ensures never_falls { H.faults shelf.old ≤ H.faults shelf.new }
     ensures misses_never_fall { H.misses shelf.old ≤ H.misses shelf.new }
@@ -105,11 +106,13 @@ fn optional_bytes<H: Shelf>(
     shelf: &mut H,
     name: String,
 ) -> Result<Option<Vec<u8>>, LoadFault>
-    ensures whole { IfOk result (λ found. MatchOption found (IsNotHeld (H.files shelf.old) (string_bytes name)) (λ bytes. IsWhole (H.files shelf.old) (string_bytes name) bytes.items)) }
+    ensures whole { IfOk result (λ found. MatchOption found (IsNotHeld (H.files shelf.old) (string_bytes name))
+        (λ bytes. IsWhole (H.files shelf.old) (string_bytes name) bytes.items)) }
     ensures short { IfOk result (λ found. IfSome found (λ bytes. length bytes.items ≤ most_bytes)) }
     ensures named { IfErr result MissesNothing }
     ensures stopped { IfErr result (IsStopped (H.files shelf.old) (string_bytes name)) }
-    ensures shown { IfErr result (λ e. ShowsInCounts e (H.misses shelf.old) (H.misses shelf.new) (H.faults shelf.old) (H.faults shelf.new)) }
+    ensures shown { IfErr result (λ e. ShowsInCounts e (H.misses shelf.old) (H.misses shelf.new) (H.faults shelf.old)
+        (H.faults shelf.new)) }
     ensures kept { H.files shelf.new ≡ H.files shelf.old }
     ensures never_falls { H.faults shelf.old ≤ H.faults shelf.new }
     ensures misses_never_fall { H.misses shelf.old ≤ H.misses shelf.new }
@@ -124,12 +127,16 @@ fn optional_bytes<H: Shelf>(
 
 /// The rows of a folder's node table.
 fn load_nodes<H: Shelf>(alloc: Global, shelf: &mut H, dir: &str) -> Result<Vec<NodeRow>, LoadFault>
-    ensures rows { IfOk result (λ rows. IfSome (H.files shelf.old) (λ files. table node_rows files (node_table dir.now) ≡ Ok rows.items)) }
-    ensures in_range { IfOk result (λ rows. IsTrue (list_all (λ r. is_id r.id && is_none_or is_face_id r.face) rows.items)) }
+    ensures rows { IfOk result (λ rows. IfSome (H.files shelf.old)
+        (λ files. table node_rows files (node_table dir.now) ≡ Ok rows.items)) }
+    ensures in_range { IfOk result (λ rows. IsTrue (list_all (λ r. is_id r.id
+        && is_none_or is_face_id r.face) rows.items)) }
     ensures few { IfOk result (λ rows. length rows.items ≤ 16_777_216) }
-    ensures ends { IfErr result (IsMetWhereTold (H.files shelf.old) (λ files. table node_rows files (node_table dir.now))) }
+    ensures ends { IfErr result (IsMetWhereTold (H.files shelf.old)
+        (λ files. table node_rows files (node_table dir.now))) }
     ensures named { IfErr result (NamesOnly (node_table dir.now)) }
-    ensures shown { IfErr result (λ e. ShowsInCounts e (H.misses shelf.old) (H.misses shelf.new) (H.faults shelf.old) (H.faults shelf.new)) }
+    ensures shown { IfErr result (λ e. ShowsInCounts e (H.misses shelf.old) (H.misses shelf.new) (H.faults shelf.old)
+        (H.faults shelf.new)) }
     ensures kept { H.files shelf.new ≡ H.files shelf.old }
     ensures never_falls { H.faults shelf.old ≤ H.faults shelf.new }
     ensures misses_never_fall { H.misses shelf.old ≤ H.misses shelf.new }
@@ -142,12 +149,15 @@ fn load_nodes<H: Shelf>(alloc: Global, shelf: &mut H, dir: &str) -> Result<Vec<N
 
 /// The rows of a folder's edge table.
 fn load_edges<H: Shelf>(alloc: Global, shelf: &mut H, dir: &str) -> Result<Vec<EdgeRow>, LoadFault>
-    ensures rows { IfOk result (λ rows. IfSome (H.files shelf.old) (λ files. table edge_rows files (edge_table dir.now) ≡ Ok rows.items)) }
+    ensures rows { IfOk result (λ rows. IfSome (H.files shelf.old)
+        (λ files. table edge_rows files (edge_table dir.now) ≡ Ok rows.items)) }
     ensures in_range { IfOk result (λ rows. IsTrue (list_all is_edge_in_range rows.items)) }
     ensures few { IfOk result (λ rows. length rows.items ≤ 16_777_216) }
-    ensures ends { IfErr result (IsMetWhereTold (H.files shelf.old) (λ files. table edge_rows files (edge_table dir.now))) }
+    ensures ends { IfErr result (IsMetWhereTold (H.files shelf.old)
+        (λ files. table edge_rows files (edge_table dir.now))) }
     ensures named { IfErr result (NamesOnly (edge_table dir.now)) }
-    ensures shown { IfErr result (λ e. ShowsInCounts e (H.misses shelf.old) (H.misses shelf.new) (H.faults shelf.old) (H.faults shelf.new)) }
+    ensures shown { IfErr result (λ e. ShowsInCounts e (H.misses shelf.old) (H.misses shelf.new) (H.faults shelf.old)
+        (H.faults shelf.new)) }
     ensures kept { H.files shelf.new ≡ H.files shelf.old }
     ensures never_falls { H.faults shelf.old ≤ H.faults shelf.new }
     ensures misses_never_fall { H.misses shelf.old ≤ H.misses shelf.new }
@@ -160,12 +170,15 @@ fn load_edges<H: Shelf>(alloc: Global, shelf: &mut H, dir: &str) -> Result<Vec<E
 
 /// The rows of a folder's face table.
 fn load_faces<H: Shelf>(alloc: Global, shelf: &mut H, dir: &str) -> Result<Vec<FaceRow>, LoadFault>
-    ensures rows { IfOk result (λ rows. IfSome (H.files shelf.old) (λ files. table face_rows files (face_table dir.now) ≡ Ok rows.items)) }
+    ensures rows { IfOk result (λ rows. IfSome (H.files shelf.old)
+        (λ files. table face_rows files (face_table dir.now) ≡ Ok rows.items)) }
     ensures in_range { IfOk result (λ rows. IsTrue (list_all (λ r. is_face_id r.id) rows.items)) }
     ensures few { IfOk result (λ rows. length rows.items ≤ 16_777_216) }
-    ensures ends { IfErr result (IsMetWhereTold (H.files shelf.old) (λ files. table face_rows files (face_table dir.now))) }
+    ensures ends { IfErr result (IsMetWhereTold (H.files shelf.old)
+        (λ files. table face_rows files (face_table dir.now))) }
     ensures named { IfErr result (NamesOnly (face_table dir.now)) }
-    ensures shown { IfErr result (λ e. ShowsInCounts e (H.misses shelf.old) (H.misses shelf.new) (H.faults shelf.old) (H.faults shelf.new)) }
+    ensures shown { IfErr result (λ e. ShowsInCounts e (H.misses shelf.old) (H.misses shelf.new) (H.faults shelf.old)
+        (H.faults shelf.new)) }
     ensures kept { H.files shelf.new ≡ H.files shelf.old }
     ensures never_falls { H.faults shelf.old ≤ H.faults shelf.new }
     ensures misses_never_fall { H.misses shelf.old ≤ H.misses shelf.new }
@@ -182,12 +195,16 @@ fn load_regions<H: Shelf>(
     shelf: &mut H,
     dir: &str,
 ) -> Result<Vec<RegionRow>, LoadFault>
-    ensures rows { IfOk result (λ rows. IfSome (H.files shelf.old) (λ files. optional_table region_rows files (region_table dir.now) ≡ Ok rows.items)) }
-    ensures in_range { IfOk result (λ rows. IsTrue (list_all (λ r. is_id r.id && is_none_or is_id r.parent) rows.items)) }
+    ensures rows { IfOk result (λ rows. IfSome (H.files shelf.old)
+        (λ files. optional_table region_rows files (region_table dir.now) ≡ Ok rows.items)) }
+    ensures in_range { IfOk result (λ rows. IsTrue (list_all (λ r. is_id r.id
+        && is_none_or is_id r.parent) rows.items)) }
     ensures few { IfOk result (λ rows. length rows.items ≤ 16_777_216) }
-    ensures ends { IfErr result (IsMetWhereTold (H.files shelf.old) (λ files. optional_table region_rows files (region_table dir.now))) }
+    ensures ends { IfErr result (IsMetWhereTold (H.files shelf.old)
+        (λ files. optional_table region_rows files (region_table dir.now))) }
     ensures named { IfErr result MissesNothing }
-    ensures shown { IfErr result (λ e. ShowsInCounts e (H.misses shelf.old) (H.misses shelf.new) (H.faults shelf.old) (H.faults shelf.new)) }
+    ensures shown { IfErr result (λ e. ShowsInCounts e (H.misses shelf.old) (H.misses shelf.new) (H.faults shelf.old)
+        (H.faults shelf.new)) }
     ensures kept { H.files shelf.new ≡ H.files shelf.old }
     ensures never_falls { H.faults shelf.old ≤ H.faults shelf.new }
     ensures misses_never_fall { H.misses shelf.old ≤ H.misses shelf.new }
@@ -206,12 +223,15 @@ fn load_members<H: Shelf>(
     shelf: &mut H,
     dir: &str,
 ) -> Result<Vec<MemberRow>, LoadFault>
-    ensures rows { IfOk result (λ rows. IfSome (H.files shelf.old) (λ files. optional_table member_rows files (member_table dir.now) ≡ Ok rows.items)) }
+    ensures rows { IfOk result (λ rows. IfSome (H.files shelf.old)
+        (λ files. optional_table member_rows files (member_table dir.now) ≡ Ok rows.items)) }
     ensures in_range { IfOk result (λ rows. IsTrue (list_all (λ r. is_id r.region && is_face_id r.face) rows.items)) }
     ensures few { IfOk result (λ rows. length rows.items ≤ 16_777_217) }
-    ensures ends { IfErr result (IsMetWhereTold (H.files shelf.old) (λ files. optional_table member_rows files (member_table dir.now))) }
+    ensures ends { IfErr result (IsMetWhereTold (H.files shelf.old)
+        (λ files. optional_table member_rows files (member_table dir.now))) }
     ensures named { IfErr result MissesNothing }
-    ensures shown { IfErr result (λ e. ShowsInCounts e (H.misses shelf.old) (H.misses shelf.new) (H.faults shelf.old) (H.faults shelf.new)) }
+    ensures shown { IfErr result (λ e. ShowsInCounts e (H.misses shelf.old) (H.misses shelf.new) (H.faults shelf.old)
+        (H.faults shelf.new)) }
     ensures kept { H.files shelf.new ≡ H.files shelf.old }
     ensures never_falls { H.faults shelf.old ≤ H.faults shelf.new }
     ensures misses_never_fall { H.misses shelf.old ≤ H.misses shelf.new }
@@ -226,11 +246,13 @@ fn load_members<H: Shelf>(
 
 /// The tables of a folder, in range. The region and the member table may be missing.
 pub fn load_tables<H: Shelf>(alloc: Global, shelf: &mut H, dir: &str) -> Result<Tables, LoadFault>
-    ensures loaded { IfOk result (λ tables. IfSome (H.files shelf.old) (λ files. loaded files dir.now ≡ Ok (rows_of tables))) }
+    ensures loaded { IfOk result (λ tables. IfSome (H.files shelf.old)
+        (λ files. loaded files dir.now ≡ Ok (rows_of tables))) }
     ensures in_range { IfOk result (λ tables. IsTrue (is_in_range (rows_of tables))) }
     ensures ends { IfErr result (IsMetWhereTold (H.files shelf.old) (λ files. loaded files dir.now)) }
     ensures named { IfErr result (NamesNeeded dir.now) }
-    ensures shown { IfErr result (λ e. ShowsInCounts e (H.misses shelf.old) (H.misses shelf.new) (H.faults shelf.old) (H.faults shelf.new)) }
+    ensures shown { IfErr result (λ e. ShowsInCounts e (H.misses shelf.old) (H.misses shelf.new) (H.faults shelf.old)
+        (H.faults shelf.new)) }
     ensures kept { H.files shelf.new ≡ H.files shelf.old }
     ensures never_falls { H.faults shelf.old ≤ H.faults shelf.new }
     ensures misses_never_fall { H.misses shelf.old ≤ H.misses shelf.new }
@@ -255,7 +277,8 @@ pub fn load_image<H: Shelf>(alloc: Global, shelf: &mut H, dir: &str) -> Result<V
     ensures built { IfOk result (λ image. Builds (H.files shelf.old) dir.now image.items) }
     ensures ends { IfErr result (IsMetWhereTold (H.files shelf.old) (λ files. served files dir.now)) }
     ensures named { IfErr result (NamesNeeded dir.now) }
-    ensures shown { IfErr result (λ e. ShowsInCounts e (H.misses shelf.old) (H.misses shelf.new) (H.faults shelf.old) (H.faults shelf.new)) }
+    ensures shown { IfErr result (λ e. ShowsInCounts e (H.misses shelf.old) (H.misses shelf.new) (H.faults shelf.old)
+        (H.faults shelf.new)) }
     ensures kept { H.files shelf.new ≡ H.files shelf.old }
     ensures never_falls { H.faults shelf.old ≤ H.faults shelf.new }
     ensures misses_never_fall { H.misses shelf.old ≤ H.misses shelf.new }
@@ -271,7 +294,8 @@ pub fn load_file<H: Shelf>(alloc: Global, shelf: &mut H, file: &str) -> Result<V
     ensures short { IfOk result (λ bytes. length bytes.items ≤ most_bytes) }
     ensures ends { IfErr result (IsMetWhereTold (H.files shelf.old) (λ files. opened files file.now)) }
     ensures named { IfErr result (NamesFile file.now) }
-    ensures shown { IfErr result (λ e. ShowsInCounts e (H.misses shelf.old) (H.misses shelf.new) (H.faults shelf.old) (H.faults shelf.new)) }
+    ensures shown { IfErr result (λ e. ShowsInCounts e (H.misses shelf.old) (H.misses shelf.new) (H.faults shelf.old)
+        (H.faults shelf.new)) }
     ensures kept { H.files shelf.new ≡ H.files shelf.old }
     ensures no_write_fault { H.write_faults shelf.new ≡ H.write_faults shelf.old }
 {

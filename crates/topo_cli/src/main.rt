@@ -113,7 +113,8 @@ fn run_uncounted<H: Shelf, S: Source, K: Sink, L: Ledger>(
     requires name { blank.name ≡ L.name }
     requires parts { blank.parts ≡ L.parts }
     requires some { 0 < blank.parts }
-    ensures { (read : ℕ) × IsPromised (call_of (form (map string_bytes words.now)) (shelf_call H.files H.misses H.faults H.write_faults shelf.old shelf.new)
+    ensures { (read : ℕ) × IsPromised (call_of (form (map string_bytes words.now))
+        (shelf_call H.files H.misses H.faults H.write_faults shelf.old shelf.new)
         (source_call S.left S.faults script.old script.new) (sink_call K.held K.faults out.old out.new) 0 read) result }
 {
     let mut steps = Steps::<L>::new(alloc, blank);

@@ -1795,8 +1795,8 @@ fn shelf_of_files(alloc: Global) -> Result<Option<MemoryShelf<'static>>, Fail> {
     Ok(Some(shelf))
 }
 
-/// Whether the island's file in form 1 is answered as its tables are, walked as it has to be, and answered the same once
-/// it is upgraded.
+/// Whether the island's file in form 1 is answered as its tables are, walked as it has to be, and answered the same
+/// once it is upgraded.
 fn answers_old_isle<L: Ledger>(alloc: Global, blank: Blank) -> Result<bool, Fail>
     requires name { blank.name ≡ L.name }
     requires parts { blank.parts ≡ L.parts }

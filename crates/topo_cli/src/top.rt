@@ -67,8 +67,9 @@ fn ask<H: Shelf, S: Source, K: Sink, L: Ledger>(
     out: &mut K,
     steps: &mut Steps<L>,
 ) -> Status
-    ensures { IsPromised (call_of (Some (Form.Ask dir.now)) (shelf_call H.files H.misses H.faults H.write_faults shelf.old shelf.new)
-        (source_call S.left S.faults script.old script.new) (sink_call K.held K.faults out.old out.new) steps.old steps.new) result }
+    ensures { IsPromised (call_of (Some (Form.Ask dir.now)) (shelf_call H.files H.misses H.faults H.write_faults
+        shelf.old shelf.new) (source_call S.left S.faults script.old script.new)
+        (sink_call K.held K.faults out.old out.new) steps.old steps.new) result }
 {
     let image = match load_image(alloc, shelf, dir) {
         Ok(image) => image,
@@ -87,8 +88,10 @@ fn build_file<H: Shelf, K: Sink, L: Ledger>(
     out: &mut K,
     steps: &mut Steps<L>,
 ) -> Status
-    ensures { (script : SourceCall) → IsIdle script → IsPromised (call_of (Some (Form.Build dir.now file.now))
-        (shelf_call H.files H.misses H.faults H.write_faults shelf.old shelf.new) script (sink_call K.held K.faults out.old out.new) steps.old steps.new) result }
+    ensures { (script : SourceCall) → IsIdle script
+        → IsPromised (call_of (Some (Form.Build dir.now file.now))
+        (shelf_call H.files H.misses H.faults H.write_faults shelf.old shelf.new) script
+        (sink_call K.held K.faults out.old out.new) steps.old steps.new) result }
 {
     let image = match load_image(alloc, shelf, dir) {
         Ok(image) => image,
@@ -114,8 +117,10 @@ fn query_file<H: Shelf, S: Source, K: Sink, L: Ledger>(
     out: &mut K,
     steps: &mut Steps<L>,
 ) -> Status
-    ensures { IsPromised (call_of (Some (Form.Query file.now)) (shelf_call H.files H.misses H.faults H.write_faults shelf.old shelf.new)
-        (source_call S.left S.faults script.old script.new) (sink_call K.held K.faults out.old out.new) steps.old steps.new) result }
+    ensures { IsPromised (call_of (Some (Form.Query file.now))
+        (shelf_call H.files H.misses H.faults H.write_faults shelf.old shelf.new)
+        (source_call S.left S.faults script.old script.new)
+        (sink_call K.held K.faults out.old out.new) steps.old steps.new) result }
 {
     let bytes = match load_file(alloc, shelf, file) {
         Ok(bytes) => bytes,
@@ -135,8 +140,9 @@ fn check_file<H: Shelf, K: Sink, L: Ledger>(
     out: &mut K,
     steps: &mut Steps<L>,
 ) -> Status
-    ensures { (script : SourceCall) → IsIdle script → IsPromised (call_of (Some (Form.Check file.now))
-        (shelf_call H.files H.misses H.faults H.write_faults shelf.old shelf.new) script (sink_call K.held K.faults out.old out.new) steps.old steps.new) result }
+    ensures { (script : SourceCall) → IsIdle script
+        → IsPromised (call_of (Some (Form.Check file.now)) (shelf_call H.files H.misses H.faults H.write_faults
+        shelf.old shelf.new) script (sink_call K.held K.faults out.old out.new) steps.old steps.new) result }
 {
     let bytes = match load_file(alloc, shelf, file) {
         Ok(bytes) => bytes,
@@ -162,8 +168,10 @@ fn hops<H: Shelf, K: Sink, L: Ledger>(
     out: &mut K,
     steps: &mut Steps<L>,
 ) -> Status
-    ensures { (script : SourceCall) → IsIdle script → IsPromised (call_of (Some (Form.Hops file.now from.0 to.0))
-        (shelf_call H.files H.misses H.faults H.write_faults shelf.old shelf.new) script (sink_call K.held K.faults out.old out.new) steps.old steps.new) result }
+    ensures { (script : SourceCall) → IsIdle script
+        → IsPromised (call_of (Some (Form.Hops file.now from.0 to.0))
+        (shelf_call H.files H.misses H.faults H.write_faults shelf.old shelf.new) script
+        (sink_call K.held K.faults out.old out.new) steps.old steps.new) result }
 {
     let bytes = match load_file(alloc, shelf, file) {
         Ok(bytes) => bytes,
@@ -188,8 +196,10 @@ fn upgrade<H: Shelf, K: Sink, L: Ledger>(
     out: &mut K,
     steps: &mut Steps<L>,
 ) -> Status
-    ensures { (script : SourceCall) → IsIdle script → IsPromised (call_of (Some (Form.Upgrade old_file.now new_file.now))
-        (shelf_call H.files H.misses H.faults H.write_faults shelf.old shelf.new) script (sink_call K.held K.faults out.old out.new) steps.old steps.new) result }
+    ensures { (script : SourceCall) → IsIdle script
+        → IsPromised (call_of (Some (Form.Upgrade old_file.now new_file.now))
+        (shelf_call H.files H.misses H.faults H.write_faults shelf.old shelf.new) script
+        (sink_call K.held K.faults out.old out.new) steps.old steps.new) result }
 {
     let bytes = match load_file(alloc, shelf, old_file) {
         Ok(bytes) => bytes,
@@ -222,8 +232,10 @@ fn dump<H: Shelf, K: Sink, L: Ledger>(
     out: &mut K,
     steps: &mut Steps<L>,
 ) -> Status
-    ensures { (script : SourceCall) → IsIdle script → IsPromised (call_of (Some (Form.Dump file.now dir.now))
-        (shelf_call H.files H.misses H.faults H.write_faults shelf.old shelf.new) script (sink_call K.held K.faults out.old out.new) steps.old steps.new) result }
+    ensures { (script : SourceCall) → IsIdle script
+        → IsPromised (call_of (Some (Form.Dump file.now dir.now))
+        (shelf_call H.files H.misses H.faults H.write_faults shelf.old shelf.new) script
+        (sink_call K.held K.faults out.old out.new) steps.old steps.new) result }
 {
     let bytes = match load_file(alloc, shelf, file) {
         Ok(bytes) => bytes,
@@ -252,7 +264,8 @@ fn trial<K: Sink, L: Ledger>(alloc: Global, size: u32, out: &mut K, steps: &mut 
     requires some { 1 ≤ size }
     requires size { size ≤ 1000 }
     ensures { (shelf : ShelfCall) (script : SourceCall) → IsUntouched shelf → IsIdle script
-        → IsPromised (call_of (Some (Form.Trial size)) shelf script (sink_call K.held K.faults out.old out.new) steps.old steps.new) result }
+        → IsPromised (call_of (Some (Form.Trial size)) shelf script
+        (sink_call K.held K.faults out.old out.new) steps.old steps.new) result }
 {
     let image = match grid_image(alloc, size) {
         Ok(image) => image,
@@ -275,8 +288,10 @@ pub fn run<H: Shelf, S: Source, K: Sink, L: Ledger>(
     out: &mut K,
     steps: &mut Steps<L>,
 ) -> Status
-    ensures { IsPromised (call_of (form (map string_bytes words.now)) (shelf_call H.files H.misses H.faults H.write_faults shelf.old shelf.new)
-        (source_call S.left S.faults script.old script.new) (sink_call K.held K.faults out.old out.new) steps.old steps.new) result }
+    ensures { IsPromised (call_of (form (map string_bytes words.now))
+        (shelf_call H.files H.misses H.faults H.write_faults shelf.old shelf.new)
+        (source_call S.left S.faults script.old script.new)
+        (sink_call K.held K.faults out.old out.new) steps.old steps.new) result }
 {
     match command_of(words) {
         Some(Command::Ask { dir }) => ask(alloc, dir, shelf, script, out, steps),

@@ -64,7 +64,8 @@ pub fn trial_lines<L: Ledger>(
     steps: &mut Steps<L>,
 ) -> Result<Vec<u8>, AllocError>
     ensures text { IfOk result (λ text. text.items ≡ trial_text size (served_map served.entry)) }
-    ensures least { IfOk result (λ _. steps.old + (face_total (served_map served.entry) + node_total (served_map served.entry) + adjacent_total (served_map served.entry)) ≤ steps.new) }
+    ensures least { IfOk result (λ _. steps.old + (face_total (served_map served.entry)
+        + node_total (served_map served.entry) + adjacent_total (served_map served.entry)) ≤ steps.new) }
     ensures most { steps.new ≤ steps.old + most_total_words (served_map served.entry) }
     ensures grows { steps.old ≤ steps.new }
 {

@@ -127,7 +127,8 @@ pub struct Header {
     pub table: Table,
     pub names: ByteRecord,
     places: [Option<usize>; COLUMNS],
-    ghost found: { (c : Column) → slice_get places (code c) ≡ Some (position (bytes_eq (column_name c)) (fields_of names)) },
+    ghost found: { (c : Column) → slice_get places (code c)
+        ≡ Some (position (bytes_eq (column_name c)) (fields_of names)) },
 }
 
 impl Header {

@@ -24,7 +24,8 @@ pub fn records(alloc: Global, bytes: &[u8]) -> Reader<&[u8]>
 pub fn next_record(reader: &mut Reader<&[u8]>, fields: &mut ByteRecord) -> Result<bool, AllocError>
     requires { IsReading reader.old }
     ensures reading { IfOk result (λ found. found ≡ true → IsReading reader.new) }
-    ensures gives { IfOk result (λ found. GivesNext (left_in reader.old) found (fields_of fields.new) (left_in reader.new)) }
+    ensures gives { IfOk result (λ found. GivesNext (left_in reader.old) found (fields_of fields.new)
+        (left_in reader.new)) }
 {
     let found = match reader.read_byte_record(fields) {
         Ok(found) => found,

@@ -47,8 +47,10 @@ fn read_lines<R: TableRow>(
 ) -> Result<Vec<R>, CsvFault>
     requires table { header.now.table ≡ R.of_table }
     requires reading { IsReading reader.old }
-    ensures rows { IfOk result (λ rows. rows_from R.of_table R.read_line (fields_of header.now.names) 1 (left_in reader.old) ≡ Ok rows.items) }
-    ensures refused { IfErr result (λ e. IsFault e (rows_from R.of_table R.read_line (fields_of header.now.names) 1 (left_in reader.old))) }
+    ensures rows { IfOk result (λ rows. rows_from R.of_table R.read_line (fields_of header.now.names) 1
+        (left_in reader.old) ≡ Ok rows.items) }
+    ensures refused { IfErr result (λ e. IsFault e (rows_from R.of_table R.read_line (fields_of header.now.names) 1
+        (left_in reader.old))) }
 {
     let mut rows = Vec::new(alloc);
     let mut fields = ByteRecord::new(alloc);

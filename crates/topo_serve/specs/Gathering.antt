@@ -16,7 +16,8 @@ out_at held faults text = record { held = held; faults = faults; text = text }
 abbrev pub Gains : Out → Out → List ℕ → Type 0
 Gains before after bytes = (put : List ℕ) × (put ++ after.text ≡ before.text ++ bytes) × Appends before.held after.held put
 
--- on success these bytes were put or gathered, and no fault was counted; else only bytes at the front of what was to be put were put, and the sink counted a fault
+-- on success these bytes were put or gathered, and no fault was counted; else only bytes at the front of what was to be
+-- put were put, and the sink counted a fault
 pub record Writes {X E : Type 0} (result : Result X E) (before after : Out) (bytes : List ℕ) : Type 0 where
   pub gained : OnOk result (Gains before after bytes)
   pub stays : OnOk result (after.faults ≡ before.faults)

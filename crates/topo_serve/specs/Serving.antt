@@ -113,7 +113,8 @@ pub record IsFine (c : Call) : Type 0 where
   pub no_script_fault : ¬ (Rose c.script_faults_before c.script_faults_after)
   pub no_out_fault : ¬ (Rose c.out_faults_before c.out_faults_after)
 
--- what holds on every answer: which bytes were taken, what the answer says, that no count fell, and that such a call succeeds where all is fine
+-- what holds on every answer: which bytes were taken, what the answer says, that no count fell, and that such a call
+-- succeeds where all is fine
 pub record Serves (m : PlaneMap) (c : Call) (result : Result (Unit {0}) ServeFault) : Type 0 where
   pub taken : List ℕ
   pub consumed : Consumes c.script_before c.script_after taken

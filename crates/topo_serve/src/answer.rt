@@ -35,8 +35,11 @@ fn answer_next<K: Sink, C: Ledger>(
     text: &mut Gathered,
     steps: &mut Steps<C>,
 ) -> Result<(), Failed>
-    ensures writes { Writes result (out_at (K.held out.old) (K.faults out.old) text.old.items) (out_at (K.held out.new) (K.faults out.new) text.new.items) (after_colon (items (served_map served.now) (script.Query.Next edge))) }
-    ensures least { OnOk result (steps.old + length (unwrap_or (items (served_map served.now) (script.Query.Next edge)) []) ≤ steps.new) }
+    ensures writes { Writes result (out_at (K.held out.old) (K.faults out.old) text.old.items)
+        (out_at (K.held out.new) (K.faults out.new) text.new.items)
+        (after_colon (items (served_map served.now) (script.Query.Next edge))) }
+    ensures least { OnOk result (steps.old + length (unwrap_or (items (served_map served.now) (script.Query.Next edge))
+        []) ≤ steps.new) }
     ensures grows { steps.old ≤ steps.new }
     ensures paid { steps.new ≤ steps.old + words_of_query (served_map served.now) (script.Query.Next edge) }
 {
@@ -54,8 +57,11 @@ fn answer_ends<K: Sink, C: Ledger>(
     text: &mut Gathered,
     steps: &mut Steps<C>,
 ) -> Result<(), Failed>
-    ensures writes { Writes result (out_at (K.held out.old) (K.faults out.old) text.old.items) (out_at (K.held out.new) (K.faults out.new) text.new.items) (after_colon (items (served_map served.now) (script.Query.Ends edge))) }
-    ensures least { OnOk result (steps.old + length (unwrap_or (items (served_map served.now) (script.Query.Ends edge)) []) ≤ steps.new) }
+    ensures writes { Writes result (out_at (K.held out.old) (K.faults out.old) text.old.items)
+        (out_at (K.held out.new) (K.faults out.new) text.new.items)
+        (after_colon (items (served_map served.now) (script.Query.Ends edge))) }
+    ensures least { OnOk result (steps.old + length (unwrap_or (items (served_map served.now) (script.Query.Ends edge))
+        []) ≤ steps.new) }
     ensures grows { steps.old ≤ steps.new }
     ensures paid { steps.new ≤ steps.old + words_of_query (served_map served.now) (script.Query.Ends edge) }
 {
@@ -73,8 +79,11 @@ fn answer_sides<K: Sink, C: Ledger>(
     text: &mut Gathered,
     steps: &mut Steps<C>,
 ) -> Result<(), Failed>
-    ensures writes { Writes result (out_at (K.held out.old) (K.faults out.old) text.old.items) (out_at (K.held out.new) (K.faults out.new) text.new.items) (after_colon (items (served_map served.now) (script.Query.Sides edge))) }
-    ensures least { OnOk result (steps.old + length (unwrap_or (items (served_map served.now) (script.Query.Sides edge)) []) ≤ steps.new) }
+    ensures writes { Writes result (out_at (K.held out.old) (K.faults out.old) text.old.items)
+        (out_at (K.held out.new) (K.faults out.new) text.new.items)
+        (after_colon (items (served_map served.now) (script.Query.Sides edge))) }
+    ensures least { OnOk result (steps.old + length (unwrap_or (items (served_map served.now) (script.Query.Sides edge))
+        []) ≤ steps.new) }
     ensures grows { steps.old ≤ steps.new }
     ensures paid { steps.new ≤ steps.old + words_of_query (served_map served.now) (script.Query.Sides edge) }
 {
@@ -92,8 +101,11 @@ fn answer_contains<K: Sink, C: Ledger>(
     text: &mut Gathered,
     steps: &mut Steps<C>,
 ) -> Result<(), Failed>
-    ensures writes { Writes result (out_at (K.held out.old) (K.faults out.old) text.old.items) (out_at (K.held out.new) (K.faults out.new) text.new.items) (after_colon (items (served_map served.now) (script.Query.Contains node.0))) }
-    ensures least { OnOk result (steps.old + length (unwrap_or (items (served_map served.now) (script.Query.Contains node.0)) []) ≤ steps.new) }
+    ensures writes { Writes result (out_at (K.held out.old) (K.faults out.old) text.old.items)
+        (out_at (K.held out.new) (K.faults out.new) text.new.items)
+        (after_colon (items (served_map served.now) (script.Query.Contains node.0))) }
+    ensures least { OnOk result (steps.old + length (unwrap_or (items (served_map served.now)
+        (script.Query.Contains node.0)) []) ≤ steps.new) }
     ensures grows { steps.old ≤ steps.new }
     ensures paid { steps.new ≤ steps.old + words_of_query (served_map served.now) (script.Query.Contains node.0) }
 {
@@ -112,10 +124,14 @@ fn answer_common<K: Sink, C: Ledger>(
     text: &mut Gathered,
     steps: &mut Steps<C>,
 ) -> Result<(), Failed>
-    ensures writes { Writes result (out_at (K.held out.old) (K.faults out.old) text.old.items) (out_at (K.held out.new) (K.faults out.new) text.new.items) (after_colon (items (served_map served.now) (script.Query.Common first.0 second.0))) }
-    ensures least { OnOk result (steps.old + length (unwrap_or (items (served_map served.now) (script.Query.Common first.0 second.0)) []) ≤ steps.new) }
+    ensures writes { Writes result (out_at (K.held out.old) (K.faults out.old) text.old.items)
+        (out_at (K.held out.new) (K.faults out.new) text.new.items)
+        (after_colon (items (served_map served.now) (script.Query.Common first.0 second.0))) }
+    ensures least { OnOk result (steps.old + length (unwrap_or (items (served_map served.now)
+        (script.Query.Common first.0 second.0)) []) ≤ steps.new) }
     ensures grows { steps.old ≤ steps.new }
-    ensures paid { steps.new ≤ steps.old + words_of_query (served_map served.now) (script.Query.Common first.0 second.0) }
+    ensures paid { steps.new ≤ steps.old + words_of_query (served_map served.now)
+        (script.Query.Common first.0 second.0) }
 {
     match common(*served, first, second, steps) {
         Some(Some(region)) => list_numbers(out, text, &[region.0]),
@@ -130,7 +146,9 @@ fn answer_counts<K: Sink>(
     out: &mut K,
     text: &mut Gathered,
 ) -> Result<(), Failed>
-    ensures { Writes result (out_at (K.held out.old) (K.faults out.old) text.old.items) (out_at (K.held out.new) (K.faults out.new) text.new.items) (after_colon (items (served_map served.now) script.Query.Counts)) }
+    ensures { Writes result (out_at (K.held out.old) (K.faults out.old) text.old.items)
+        (out_at (K.held out.new) (K.faults out.new) text.new.items)
+        (after_colon (items (served_map served.now) script.Query.Counts)) }
 {
     let counts = served.counts();
     list_numbers(
@@ -156,7 +174,9 @@ fn list_across<K: Sink, C: Ledger>(
 ) -> Result<(), Failed>
     requires room { length (across.contents_in walk.old).faces < room_of marks.old }
     requires marks { across.HoldsGiven walk.old marks.old }
-    ensures writes { Writes result (out_at (K.held out.old) (K.faults out.old) text.old.items) (out_at (K.held out.new) (K.faults out.new) text.new.items) (flat_map item_text (map script.Number (across.rest walk.old))) }
+    ensures writes { Writes result (out_at (K.held out.old) (K.faults out.old) text.old.items)
+        (out_at (K.held out.new) (K.faults out.new) text.new.items)
+        (flat_map item_text (map script.Number (across.rest walk.old))) }
     ensures contents { across.contents_in walk.new ≡ across.contents_in walk.old }
     ensures room { room_of marks.new ≡ room_of marks.old }
     ensures marks { across.HoldsGiven walk.new marks.new }
@@ -182,7 +202,9 @@ fn list_and_close<K: Sink, C: Ledger>(
     requires marks { across.HoldsGiven walk marks.old }
     ensures room { room_of marks.new ≡ room_of marks.old }
     ensures empty { IsEmpty marks.new }
-    ensures writes { Writes result (out_at (K.held out.old) (K.faults out.old) text.old.items) (out_at (K.held out.new) (K.faults out.new) text.new.items) (flat_map item_text (map script.Number (across.rest walk.entry))) }
+    ensures writes { Writes result (out_at (K.held out.old) (K.faults out.old) text.old.items)
+        (out_at (K.held out.new) (K.faults out.new) text.new.items)
+        (flat_map item_text (map script.Number (across.rest walk.entry))) }
     ensures least { OnOk result (steps.old + length (across.rest walk.entry) ≤ steps.new) }
     ensures grows { steps.old ≤ steps.new }
     ensures paid { steps.new ≤ steps.old + across.allowance walk.entry }
@@ -205,8 +227,11 @@ fn answer_adjacent<K: Sink, C: Ledger>(
     requires empty { IsEmpty marks.old }
     ensures room { room_of marks.new ≡ room_of marks.old }
     ensures empty { IsEmpty marks.new }
-    ensures writes { Writes result (out_at (K.held out.old) (K.faults out.old) text.old.items) (out_at (K.held out.new) (K.faults out.new) text.new.items) (after_colon (items (served_map served.now) (script.Query.Adjacent face.0))) }
-    ensures least { OnOk result (steps.old + length (unwrap_or (items (served_map served.now) (script.Query.Adjacent face.0)) []) ≤ steps.new) }
+    ensures writes { Writes result (out_at (K.held out.old) (K.faults out.old) text.old.items)
+        (out_at (K.held out.new) (K.faults out.new) text.new.items)
+        (after_colon (items (served_map served.now) (script.Query.Adjacent face.0))) }
+    ensures least { OnOk result (steps.old + length (unwrap_or (items (served_map served.now)
+        (script.Query.Adjacent face.0)) []) ≤ steps.new) }
     ensures grows { steps.old ≤ steps.new }
     ensures paid { steps.new ≤ steps.old + words_of_query (served_map served.now) (script.Query.Adjacent face.0) }
 {
@@ -230,8 +255,11 @@ fn answer_items<K: Sink, C: Ledger>(
     requires empty { IsEmpty marks.old }
     ensures room { room_of marks.new ≡ room_of marks.old }
     ensures empty { IsEmpty marks.new }
-    ensures writes { IfAsk (line_of query.now) (λ q. Writes result (out_at (K.held out.old) (K.faults out.old) text.old.items) (out_at (K.held out.new) (K.faults out.new) text.new.items) (after_colon (items (served_map served.now) q))) }
-    ensures least { IfAsk (line_of query.now) (λ q. OnOk result (steps.old + found_for (served_map served.now) q ≤ steps.new)) }
+    ensures writes { IfAsk (line_of query.now) (λ q. Writes result
+        (out_at (K.held out.old) (K.faults out.old) text.old.items)
+        (out_at (K.held out.new) (K.faults out.new) text.new.items) (after_colon (items (served_map served.now) q))) }
+    ensures least { IfAsk (line_of query.now) (λ q. OnOk result (steps.old + found_for (served_map served.now) q
+        ≤ steps.new)) }
     ensures grows { steps.old ≤ steps.new }
     ensures paid { IfAsk (line_of query.now) (λ q. steps.new ≤ steps.old + words_of_query (served_map served.now) q) }
 {
@@ -262,7 +290,8 @@ fn without_return(line: &[u8]) -> &[u8]
 /// The head of the answer to a line that asks a query: the line itself, without its carriage return, and a colon.
 fn gather_head<K: Sink>(out: &mut K, text: &mut Gathered, line: &[u8]) -> Result<(), Failed>
     requires { IsAsk (line_said line.now) }
-    ensures { Writes result (out_at (K.held out.old) (K.faults out.old) text.old.items) (out_at (K.held out.new) (K.faults out.new) text.new.items) (without_cr line.now ++ codes ":") }
+    ensures { Writes result (out_at (K.held out.old) (K.faults out.old) text.old.items)
+        (out_at (K.held out.new) (K.faults out.new) text.new.items) (without_cr line.now ++ codes ":") }
 {
     gather_both(out, text, without_return(line), b":")
 }
@@ -283,8 +312,11 @@ fn answer_query<K: Sink, C: Ledger>(
     requires empty { IsEmpty marks.old }
     ensures room { room_of marks.new ≡ room_of marks.old }
     ensures empty { IsEmpty marks.new }
-    ensures writes { Writes result (out_at (K.held out.old) (K.faults out.old) text.old.items) (out_at (K.held out.new) (K.faults out.new) text.new.items) (answer_to (served_map served.now) (line_of query.now)) }
-    ensures least { IfAsk (line_of query.now) (λ q. OnOk result (steps.old + found_for (served_map served.now) q ≤ steps.new)) }
+    ensures writes { Writes result (out_at (K.held out.old) (K.faults out.old) text.old.items)
+        (out_at (K.held out.new) (K.faults out.new) text.new.items)
+        (answer_to (served_map served.now) (line_of query.now)) }
+    ensures least { IfAsk (line_of query.now) (λ q. OnOk result (steps.old + found_for (served_map served.now) q
+        ≤ steps.new)) }
     ensures grows { steps.old ≤ steps.new }
     ensures paid { IfAsk (line_of query.now) (λ q. steps.new ≤ steps.old + words_of_query (served_map served.now) q) }
 {
@@ -306,7 +338,8 @@ pub(crate) fn answer_line<K: Sink, C: Ledger>(
     requires empty { IsEmpty marks.old }
     ensures room { room_of marks.new ≡ room_of marks.old }
     ensures empty { IsEmpty marks.new }
-    ensures writes { Writes result (out_at (K.held out.old) (K.faults out.old) text.old.items) (out_at (K.held out.new) (K.faults out.new) text.new.items) (answer (served_map served.now) line.now) }
+    ensures writes { Writes result (out_at (K.held out.old) (K.faults out.old) text.old.items)
+        (out_at (K.held out.new) (K.faults out.new) text.new.items) (answer (served_map served.now) line.now) }
     ensures least { OnOk result (steps.old + found_by_reads (served_map served.now) line.now ≤ steps.new) }
     ensures grows { steps.old ≤ steps.new }
     ensures paid { steps.new ≤ steps.old + words_of_line (served_map served.now) line.now }

@@ -14,7 +14,8 @@ pub(crate) type Gathered = ArrayVec<u8, GATHERED>;
 
 /// Writes what was gathered, and forgets it.
 pub(crate) fn put_out<K: Sink>(out: &mut K, text: &mut Gathered) -> Result<(), Failed>
-    ensures writes { Writes result (out_at (K.held out.old) (K.faults out.old) text.old.items) (out_at (K.held out.new) (K.faults out.new) text.new.items) [] }
+    ensures writes { Writes result (out_at (K.held out.old) (K.faults out.old) text.old.items)
+        (out_at (K.held out.new) (K.faults out.new) text.new.items) [] }
     ensures empty { OnOk result (text.new.items ≡ []) }
 {
     if !text.is_empty() {
@@ -27,7 +28,8 @@ pub(crate) fn put_out<K: Sink>(out: &mut K, text: &mut Gathered) -> Result<(), F
 /// Gathers some bytes, behind those that are still to be written.
 pub(crate) fn gather<K: Sink>(out: &mut K, text: &mut Gathered, bytes: &[u8]) -> Result<(), Failed>
     requires { length bytes.now ≤ 64 }
-    ensures { Writes result (out_at (K.held out.old) (K.faults out.old) text.old.items) (out_at (K.held out.new) (K.faults out.new) text.new.items) bytes.now }
+    ensures { Writes result (out_at (K.held out.old) (K.faults out.old) text.old.items)
+        (out_at (K.held out.new) (K.faults out.new) text.new.items) bytes.now }
 {
     if text.remaining_capacity() < bytes.len() {
         put_out(out, text)?;
@@ -44,7 +46,8 @@ pub(crate) fn gather_both<K: Sink>(
     back: &[u8],
 ) -> Result<(), Failed>
     requires { length front.now + length back.now ≤ 256 }
-    ensures { Writes result (out_at (K.held out.old) (K.faults out.old) text.old.items) (out_at (K.held out.new) (K.faults out.new) text.new.items) (front.now ++ back.now) }
+    ensures { Writes result (out_at (K.held out.old) (K.faults out.old) text.old.items)
+        (out_at (K.held out.new) (K.faults out.new) text.new.items) (front.now ++ back.now) }
 {
     if text.remaining_capacity() < front.len() + back.len() {
         put_out(out, text)?;

@@ -27,7 +27,8 @@ pub(crate) fn gather_item<K: Sink>(
     text: &mut Gathered,
     item: Item,
 ) -> Result<(), Failed>
-    ensures { Writes result (out_at (K.held out.old) (K.faults out.old) text.old.items) (out_at (K.held out.new) (K.faults out.new) text.new.items) (item_text (item_of item)) }
+    ensures { Writes result (out_at (K.held out.old) (K.faults out.old) text.old.items)
+        (out_at (K.held out.new) (K.faults out.new) text.new.items) (item_text (item_of item)) }
 {
     let mut digits = Buffer::new();
     match item {

@@ -24,7 +24,8 @@ pub(crate) trait Items {
 
     /// The next item, or None at the end.
     fn next_item<C: Ledger>(&mut self, steps: &mut Steps<C>) -> Option<Item>
-        ensures next { MatchOption result (items self.old ≡ []) (λ item. items self.old ≡ item_of item ∷ items self.new) }
+        ensures next { MatchOption result (items self.old ≡ []) (λ item. items self.old
+            ≡ item_of item ∷ items self.new) }
         ensures least { IsSome result → steps.old + 1 ≤ steps.new }
         ensures free { IsNone result → steps.new ≡ steps.old }
         ensures paid { steps.new + allowance self.new ≤ steps.old + allowance self.old };
@@ -37,7 +38,8 @@ fn list<W: Items, K: Sink, C: Ledger>(
     text: &mut Gathered,
     steps: &mut Steps<C>,
 ) -> Result<(), Failed>
-    ensures writes { Writes result (out_at (K.held out.old) (K.faults out.old) text.old.items) (out_at (K.held out.new) (K.faults out.new) text.new.items) (flat_map item_text (W.items walk.old)) }
+    ensures writes { Writes result (out_at (K.held out.old) (K.faults out.old) text.old.items)
+        (out_at (K.held out.new) (K.faults out.new) text.new.items) (flat_map item_text (W.items walk.old)) }
     ensures least { OnOk result (steps.old + length (W.items walk.old) ≤ steps.new) }
     ensures grows { steps.old ≤ steps.new }
     ensures paid { steps.new ≤ steps.old + W.allowance walk.old }
@@ -55,8 +57,10 @@ pub(crate) fn list_known<W: Items + Drop, K: Sink, C: Ledger>(
     text: &mut Gathered,
     steps: &mut Steps<C>,
 ) -> Result<(), Failed>
-    ensures writes { Writes result (out_at (K.held out.old) (K.faults out.old) text.old.items) (out_at (K.held out.new) (K.faults out.new) text.new.items) (after_colon (option_map W.items walk)) }
-    ensures least { OnOk result (MatchOption walk (steps.old ≤ steps.new) (λ w. steps.old + length (W.items w) ≤ steps.new)) }
+    ensures writes { Writes result (out_at (K.held out.old) (K.faults out.old) text.old.items)
+        (out_at (K.held out.new) (K.faults out.new) text.new.items) (after_colon (option_map W.items walk)) }
+    ensures least { OnOk result (MatchOption walk (steps.old ≤ steps.new)
+        (λ w. steps.old + length (W.items w) ≤ steps.new)) }
     ensures grows { steps.old ≤ steps.new }
     ensures paid { MatchOption walk (steps.new ≡ steps.old) (λ w. steps.new ≤ steps.old + W.allowance w) }
 {
@@ -72,7 +76,9 @@ pub(crate) fn list_numbers<K: Sink>(
     text: &mut Gathered,
     numbers: &[IdNumber],
 ) -> Result<(), Failed>
-    ensures { Writes result (out_at (K.held out.old) (K.faults out.old) text.old.items) (out_at (K.held out.new) (K.faults out.new) text.new.items) (flat_map item_text (map script.Number numbers.now)) }
+    ensures { Writes result (out_at (K.held out.old) (K.faults out.old) text.old.items)
+        (out_at (K.held out.new) (K.faults out.new) text.new.items)
+        (flat_map item_text (map script.Number numbers.now)) }
 {
     for number in numbers {
         gather_item(out, text, Item::Number(*number))?;

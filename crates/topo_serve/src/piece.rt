@@ -21,7 +21,8 @@ use std::sync::ledger::Ledger;
 
 /// Where the first line feed of some bytes stands.
 fn line_end(bytes: &[u8]) -> Option<usize>
-    ensures { MatchOption result (HasNoFeed (length bytes.now) bytes.now) (λ end. (end < length bytes.now) × (slice_index bytes.now end ≡ 10) × HasNoFeed end bytes.now) }
+    ensures { MatchOption result (HasNoFeed (length bytes.now) bytes.now)
+        (λ end. (end < length bytes.now) × (slice_index bytes.now end ≡ 10) × HasNoFeed end bytes.now) }
 {
     memchr(b'\n', bytes)
 }
@@ -40,9 +41,12 @@ fn answer_ended<K: Sink, C: Ledger>(
     requires empty { IsEmpty marks.old }
     ensures room { room_of marks.new ≡ room_of marks.old }
     ensures empty { IsEmpty marks.new }
-    ensures writes { Writes result (out_at (K.held out.old) (K.faults out.old) text.old.items) (out_at (K.held out.new) (K.faults out.new) text.new.items) (answer (served_map served.now) (line.old.items ++ end.now)) }
+    ensures writes { Writes result (out_at (K.held out.old) (K.faults out.old) text.old.items)
+        (out_at (K.held out.new) (K.faults out.new) text.new.items)
+        (answer (served_map served.now) (line.old.items ++ end.now)) }
     ensures forgotten { line.new.items ≡ [] }
-    ensures least { OnOk result (steps.old + found_by_reads (served_map served.now) (line.old.items ++ end.now) ≤ steps.new) }
+    ensures least { OnOk result (steps.old + found_by_reads (served_map served.now) (line.old.items ++ end.now)
+        ≤ steps.new) }
     ensures grows { steps.old ≤ steps.new }
     ensures paid { steps.new ≤ steps.old + words_of_line (served_map served.now) (line.old.items ++ end.now) }
 {
@@ -69,12 +73,16 @@ pub(crate) fn answer_piece<K: Sink, C: Ledger>(
     requires empty { IsEmpty marks.old }
     ensures room { room_of marks.new ≡ room_of marks.old }
     ensures empty { IsEmpty marks.new }
-    ensures writes { Writes result (out_at (K.held out.old) (K.faults out.old) text.old.items) (out_at (K.held out.new) (K.faults out.new) text.new.items) (flat_map (answer (served_map served.now)) (ended_behind line.old.items piece.now)) }
+    ensures writes { Writes result (out_at (K.held out.old) (K.faults out.old) text.old.items)
+        (out_at (K.held out.new) (K.faults out.new) text.new.items)
+        (flat_map (answer (served_map served.now)) (ended_behind line.old.items piece.now)) }
     ensures written { OnOk result (text.new.items ≡ []) }
     ensures open { OnOk result (line.new.items ≡ cut (open_behind line.old.items piece.now)) }
-    ensures least { OnOk result (steps.old + over_lines (found_by_reads (served_map served.now)) (ended_behind line.old.items piece.now) ≤ steps.new) }
+    ensures least { OnOk result (steps.old + over_lines (found_by_reads (served_map served.now))
+        (ended_behind line.old.items piece.now) ≤ steps.new) }
     ensures grows { steps.old ≤ steps.new }
-    ensures paid { steps.new ≤ steps.old + over_lines (words_of_line (served_map served.now)) (ended_behind line.old.items piece.now) }
+    ensures paid { steps.new ≤ steps.old + over_lines (words_of_line (served_map served.now))
+        (ended_behind line.old.items piece.now) }
 {
     let mut rest = piece;
     while let Some(end) = line_end(rest) {

@@ -59,9 +59,12 @@ fn answer_rest<K: Sink, C: Ledger>(
     requires empty { IsEmpty marks.old }
     ensures room { room_of marks.new ≡ room_of marks.old }
     ensures empty { IsEmpty marks.new }
-    ensures writes { Writes result (out_at (K.held out.old) (K.faults out.old) text.old.items) (out_at (K.held out.new) (K.faults out.new) text.new.items) (flat_map (answer (served_map served.now)) (last_line line.now)) }
+    ensures writes { Writes result (out_at (K.held out.old) (K.faults out.old) text.old.items)
+        (out_at (K.held out.new) (K.faults out.new) text.new.items)
+        (flat_map (answer (served_map served.now)) (last_line line.now)) }
     ensures written { OnOk result (text.old.items ≡ [] → text.new.items ≡ []) }
-    ensures least { OnOk result (steps.old + over_lines (found_by_reads (served_map served.now)) (last_line line.now) ≤ steps.new) }
+    ensures least { OnOk result (steps.old + over_lines (found_by_reads (served_map served.now)) (last_line line.now)
+        ≤ steps.new) }
     ensures grows { steps.old ≤ steps.new }
     ensures paid { steps.new ≤ steps.old + over_lines (words_of_line (served_map served.now)) (last_line line.now) }
 {

@@ -25,7 +25,9 @@ pub fn check<C: Ledger>(
     requires few_starts { length (fields_of starts) ≤ 2147483647 }
     requires some { 1 ≤ length (fields_of starts) }
     requires sizes { length (bits_of b) + length (bits_of dual) ≡ length (bits_of a) }
-    ensures checked { MatchResult result (λ _. IsTrue (is_sound (code_with (bits_of a.entry) (bits_of b.entry) (bits_of dual.entry) (fields_of starts.entry)))) (λ fault. seq_fault (code_with (bits_of a.entry) (bits_of b.entry) (bits_of dual.entry) (fields_of starts.entry)) ≡ Some fault) }
+    ensures checked { MatchResult result (λ _. IsTrue (is_sound (code_with (bits_of a.entry) (bits_of b.entry)
+        (bits_of dual.entry) (fields_of starts.entry)))) (λ fault. seq_fault
+        (code_with (bits_of a.entry) (bits_of b.entry) (bits_of dual.entry) (fields_of starts.entry)) ≡ Some fault) }
     ensures some_steps { steps.old + 1 ≤ steps.new }
     ensures cost { steps.new ≤ steps.old + 8 * (length (bits_of a.entry) + length (fields_of starts.entry)) + 64 }
 {

@@ -240,7 +240,8 @@ impl CodeNumbering {
 
     /// Puts the numbers of the next position at the end.
     fn push(&mut self, numbers: Numbers) -> Result<(), Memory>
-        ensures { OnOk result (HasLists (self.old.edge.items ++ numbers.edge ∷ []) (self.old.node.items ++ numbers.node ∷ []) (self.old.ring.items ++ numbers.ring ∷ []) self.new) }
+        ensures { OnOk result (HasLists (self.old.edge.items ++ numbers.edge ∷ [])
+            (self.old.node.items ++ numbers.node ∷ []) (self.old.ring.items ++ numbers.ring ∷ []) self.new) }
     {
         push(&mut self.edge, numbers.edge)?;
         push(&mut self.node, numbers.node)?;
@@ -258,9 +259,12 @@ pub fn number(
     requires same { length tree.now ≡ length first.now }
     requires few { length tree.now ≤ 2147483647 }
     requires sound { IsTrue (is_sound (code_of tree.now first.now starts.now)) }
-    ensures edge { IfOk result (λ numbering. numbering.edge.items ≡ edge_numbers (code_of tree.now first.now starts.now)) }
-    ensures node { IfOk result (λ numbering. numbering.node.items ≡ node_numbers (code_of tree.now first.now starts.now)) }
-    ensures ring { IfOk result (λ numbering. numbering.ring.items ≡ ring_numbers (code_of tree.now first.now starts.now)) }
+    ensures edge { IfOk result (λ numbering. numbering.edge.items
+        ≡ edge_numbers (code_of tree.now first.now starts.now)) }
+    ensures node { IfOk result (λ numbering. numbering.node.items
+        ≡ node_numbers (code_of tree.now first.now starts.now)) }
+    ensures ring { IfOk result (λ numbering. numbering.ring.items
+        ≡ ring_numbers (code_of tree.now first.now starts.now)) }
 {
     let walk = Walk {
         tree,

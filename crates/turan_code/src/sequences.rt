@@ -33,7 +33,9 @@ impl<'a> Sequences<'a> {
     /// Whether entry `index` of the starts, with this value, is right after the entry before it.
     fn is_start(&self, index: usize, start: u64, before: u64) -> bool
         requires { index ≤ 2147483647 }
-        ensures { result ≡ ((if index == 0 then start == 0 else nat_lt before start) && (if index + 1 == length (code_of_sequences self.now).starts then start == length (code_of_sequences self.now).a else true)) }
+        ensures { result ≡ ((if index == 0 then start == 0 else nat_lt before start)
+            && (if index + 1 == length (code_of_sequences self.now).starts
+            then start == length (code_of_sequences self.now).a else true)) }
     {
         let rises = if index == 0 {
             start == 0
@@ -83,7 +85,8 @@ impl<'a> Sequences<'a> {
         requires few { AreFew (code_of_sequences self.now) }
         requires order { from ≤ to }
         requires within { to ≤ length (code_of_sequences self.now).a }
-        ensures places { place (code_of_sequences self.now) kind from + result ≡ place (code_of_sequences self.now) kind to }
+        ensures places { place (code_of_sequences self.now) kind from + result
+            ≡ place (code_of_sequences self.now) kind to }
         ensures grows { steps.old ≤ steps.new }
         ensures cost { steps.new ≤ steps.old + (to - from) }
     {
@@ -121,7 +124,8 @@ impl<'a> Sequences<'a> {
         requires { AreLaidOut (code_of_sequences self.now) }
         ensures component { result ≡ balance_fault_of (code_of_sequences self.now) kind }
         ensures grows { steps.old ≤ steps.new }
-        ensures cost { steps.new ≤ steps.old + 2 * length (code_of_sequences self.now).starts + length (code_of_sequences self.now).a + 5 * length (parens (code_of_sequences self.now) kind) + 8 }
+        ensures cost { steps.new ≤ steps.old + 2 * length (code_of_sequences self.now).starts
+            + length (code_of_sequences self.now).a + 5 * length (parens (code_of_sequences self.now) kind) + 8 }
     {
         let mut start = 0;
         let mut place = 0;

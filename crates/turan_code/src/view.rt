@@ -31,7 +31,8 @@ pub struct TuranParts<'a> {
 pub struct TuranView<'a> {
     parts: TuranParts<'a>,
     ghost few: { length (counted parts.a) ≤ 2147483647 },
-    ghost sound: { IsTrue (is_sound (code_with (counted parts.a) (parens_of parts.tree) (parens_of parts.dual) (fields_of parts.starts))) },
+    ghost sound: { IsTrue (is_sound (code_with (counted parts.a) (parens_of parts.tree) (parens_of parts.dual)
+        (fields_of parts.starts))) },
 }
 
 impl<'a> TuranView<'a> {
@@ -427,7 +428,8 @@ impl<'a> TuranView<'a> {
     /// The place that opens the pair of place `place` of one kind.
     fn opening<C: Ledger>(&self, kind: bool, place: usize, steps: &mut Steps<C>) -> usize
         requires { place < length (parens (code_of_view self.now) kind) }
-        ensures opening { result ≡ (if is_open (parens (code_of_view self.now) kind) place then place else mate_of (parens (code_of_view self.now) kind) place) }
+        ensures opening { result ≡ (if is_open (parens (code_of_view self.now) kind) place then place
+            else mate_of (parens (code_of_view self.now) kind) place) }
         ensures within { result < length (parens (code_of_view self.now) kind) }
         ensures some_steps { steps.old + 1 ≤ steps.new }
         ensures cost { steps.new ≤ steps.old + 4 * digits (length (code_of_view self.now).a + 2) + 42 }

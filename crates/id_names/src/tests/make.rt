@@ -90,7 +90,8 @@ fn ids_in_cycles(
 ) -> Result<Vec<IdNumber>, AllocError>
     requires some { 1 ≤ len }
     requires few { cycles * len ≤ 100000 }
-    ensures { IfOk result (λ ids. ids.items ≡ map (λ number. number / len * len + (number % len + 1) % len + 1) (range_with_len 0 (cycles * len))) }
+    ensures { IfOk result (λ ids. ids.items ≡ map (λ number. number / len * len + (number % len + 1) % len + 1)
+        (range_with_len 0 (cycles * len))) }
 {
     let mut ids = Vec::new(alloc);
     for number in 0..cycles * len {

@@ -40,8 +40,8 @@ fn triangle(alloc: Global) -> Result<ImageParts, Fail>
     })
 }
 
-/// What the file of a triangle with a closed edge and a node inside it holds, with a region round the triangle and one in
-/// it round the closed edge.
+/// What the file of a triangle with a closed edge and a node inside it holds, with a region round the triangle and one
+/// in it round the closed edge.
 fn island(alloc: Global) -> Result<ImageParts, Fail>
     ensures walk { IfOk result (λ parts. length parts.tree.items ≡ length parts.first.items) }
     ensures whole { IfOk result (λ parts. IsTrue (is_whole (contents_of_parts parts))) }

@@ -39,7 +39,8 @@ pub trait Shelf {
         ensures no_miss { OnOk result (misses self.new ≡ misses self.old) }
         ensures no_write_fault { write_faults self.new ≡ write_faults self.old }
 
-        ensures missing { IsErrOf result ShelfFault.Missing → Rose (misses self.old) (misses self.new) × IsNotHeld (files self.old) name.now }
+        ensures missing { IsErrOf result ShelfFault.Missing
+            → Rose (misses self.old) (misses self.new) × IsNotHeld (files self.old) name.now }
         ensures missing_alone { IsErrOf result ShelfFault.Missing → faults self.new ≡ faults self.old }
         ensures failed { IsErrOf result ShelfFault.Failed → Rose (faults self.old) (faults self.new) }
         ensures failed_alone { IsErrOf result ShelfFault.Failed → misses self.new ≡ misses self.old }
@@ -64,7 +65,8 @@ pub trait Shelf {
         requires { IsHeld (files self.old) name.now }
         ensures appended { OnOk result (WhereTold (IsExtended name.now bytes.now) (files self.old) (files self.new)) }
         ensures held { OnOk result (IsHeld (files self.new) name.now) }
-        ensures prefix { OnErr result (WhereTold (IsExtendedInPart name.now bytes.now) (files self.old) (files self.new)) }
+        ensures prefix { OnErr result (WhereTold (IsExtendedInPart name.now bytes.now) (files self.old)
+            (files self.new)) }
         ensures others { WhereTold (OthersStay name.now) (files self.old) (files self.new) }
         ensures counted { CountsWrite result (write_faults self.old) (write_faults self.new) }
         ensures no_fault { faults self.new ≡ faults self.old }

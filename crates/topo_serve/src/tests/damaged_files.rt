@@ -1,5 +1,5 @@
-//! Damaged copies of the island's file, of form 1 and of form 2 in turn, against what `bench/damaged.py` says of the same
-//! copies: what is wrong with each, and what the lawful ones answer.
+//! Damaged copies of the island's file, of form 1 and of form 2 in turn, against what `bench/damaged.py` says of the
+//! same copies: what is wrong with each, and what the lawful ones answer.
 
 ghost use Rattle.std.specs.Prelude.{◌≡◌, ◌<◌};
 

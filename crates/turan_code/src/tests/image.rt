@@ -69,7 +69,8 @@ impl Model for Image {
 
     ghost Value = { Code };
 
-    ghost view = { λ i. code_with i.a i.tree i.dual (fields_in (words_in (length i.starts.items / 8) i.starts.items) i.start_count 32) };
+    ghost view = { λ i. code_with i.a i.tree i.dual (fields_in (words_in (length i.starts.items / 8) i.starts.items)
+        i.start_count 32) };
 }
 
 /// How many of these are this bit.
