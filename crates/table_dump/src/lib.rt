@@ -13,6 +13,3 @@ mod table;
 pub use dumping::dump;
 pub use fault::DumpFault;
 pub use file_names::DumpNames;
-
-#[cfg(test)]
-mod tests;

@@ -1,1 +1,0 @@
-//! Dumps are tested through the program, in `topo_cli`.
