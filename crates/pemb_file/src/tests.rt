@@ -240,6 +240,7 @@ fn a_flipped_bit_of_each_word_is_refused(rt: HostRuntime) -> Result<(), Fail> {
 
 #[test]
 fn other_words_of_a_triangle_are_told(rt: HostRuntime) -> Result<(), Fail> {
+    let triangle = old_triangle();
     for (at, word, want) in [
         (24, 1, None),
         (1, 3, Some(FileFault::UnknownForm { form: 3 })),
@@ -284,13 +285,14 @@ fn other_words_of_a_triangle_are_told(rt: HostRuntime) -> Result<(), Fail> {
         ),
         (15, 91, Some(FileFault::Padding { word: 15 })),
     ] {
-        assert_eq!(rt; fault_with(rt.alloc(), &old_triangle(), at, word)?, want);
+        assert_eq!(rt; fault_with(rt.alloc(), &triangle, at, word)?, want);
     }
     Ok(())
 }
 
 #[test]
 fn wrong_directories_of_a_triangle_are_told(rt: HostRuntime) -> Result<(), Fail> {
+    let triangle = old_triangle();
     for (at, word, section, entry, want, found) in [
         (16, 5 << 32, 2, 1, 4, 5),
         (18, 1 + (2 << 32), 4, 0, 0, 1),
@@ -304,16 +306,14 @@ fn wrong_directories_of_a_triangle_are_told(rt: HostRuntime) -> Result<(), Fail>
             want,
             found,
         };
-        assert_eq!(rt;
-            fault_with(rt.alloc(), &old_triangle(), at, word)?,
-            Some(fault)
-        );
+        assert_eq!(rt; fault_with(rt.alloc(), &triangle, at, word)?, Some(fault));
     }
     Ok(())
 }
 
 #[test]
 fn other_words_of_an_island_are_told(rt: HostRuntime) -> Result<(), Fail> {
+    let island = old_island();
     for (at, word, want) in [
         (23, 0, FileFault::Sequence(SeqFault::Starts { index: 1 })),
         (20, 9, FileFault::Sequence(SeqFault::Dual { component: 1 })),
@@ -327,10 +327,7 @@ fn other_words_of_an_island_are_told(rt: HostRuntime) -> Result<(), Fail> {
         (61, 3, FileFault::RegionPart { section: 25, at: 2 }),
         (61, 1 << 40, FileFault::Padding { word: 61 }),
     ] {
-        assert_eq!(rt;
-            fault_with(rt.alloc(), &old_island(), at, word)?,
-            Some(want)
-        );
+        assert_eq!(rt; fault_with(rt.alloc(), &island, at, word)?, Some(want));
     }
     Ok(())
 }

@@ -5,15 +5,13 @@ ghost use Rattle.pemb_file.specs.Parts.{contents_of_parts};
 ghost use Rattle.file_laws.specs.Lawful.{is_whole, has_room_for};
 
 use crate::{ImageParts, write_image, write_old_image};
+use image_words::{bytes_of, old_island, old_triangle};
 use std::alloc::Global;
 use std::test::Fail;
 
 /// Whether these are the bytes of these words, the lowest byte of each first.
 fn is_image(alloc: Global, image: &[u8], words: &[u64]) -> Result<bool, Fail> {
-    let mut bytes = Vec::new(alloc);
-    for word in words {
-        bytes.extend_from_slice(&word.to_le_bytes())?;
-    }
+    let bytes = bytes_of(alloc, words)?;
     Ok(image == bytes.as_slice())
 }
 
@@ -78,7 +76,7 @@ fn a_triangle_is_written_in_form_2(rt: HostRuntime) -> Result<(), Fail> {
     let alloc = rt.alloc();
     let parts = triangle(alloc)?;
     let image = write_image(alloc, &parts)?;
-    assert!(rt; is_image(alloc, &image, &triangle())?);
+    assert!(rt; is_image(alloc, &image, &image_words::triangle())?);
     Ok(())
 }
 
