@@ -6,7 +6,7 @@ use Rattle.rank_select.specs.Counts.{counts_of}
 use Rattle.rank_select.specs.RankView.{counted}
 use Rattle.id_names.specs.RisingNames.{id_at}
 use Rattle.id_names.specs.Views.{ids_of, names_in}
-use Rattle.id_names.specs.declared.names_view.NamesView.{NamesView}
+use Rattle.id_names.specs.declared.view.NamesView.{NamesView}
 use Rattle.id_names.proofs.NameLaws.{length-ids}
 use Rattle.region_tree.proofs.RisingIds.{rising_at}
 use Rattle.topo_base.specs.SignedEdge.{edge_of, is_forward}

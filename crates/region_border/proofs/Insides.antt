@@ -10,7 +10,7 @@ use Rattle.plane_model.specs.PlaneMap.{PlaneMap}
 use Rattle.plane_model.specs.Regions as regions
 use Rattle.plane_model.specs.Border.{is_inside}
 use Rattle.region_tree.specs.Nesting.{region_count, parent_number, upward, chain, common_number, region_at}
-use Rattle.region_tree.specs.Numbering.{AreNumbered}
+use Rattle.region_tree.specs.Numbering.{RegionsAreNumbered}
 use Rattle.region_tree.specs.RegionView.{Regions}
 use Rattle.file_laws.specs.Contents.{Contents}
 use Rattle.file_laws.specs.MapOfFile.{face_at_place}
