@@ -1,2 +1,0 @@
-pub mod RingText
-pub mod BorderText
