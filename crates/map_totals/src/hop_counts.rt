@@ -29,7 +29,13 @@ fn moves_between<C: Ledger>(
     steps: &mut Steps<C>,
 ) -> Result<Option<u32>, AllocError> {
     let mut lent = words(alloc)?;
-    match hop_walk(served, FaceId(from), FaceId(to), Region::new(&mut lent), steps) {
+    match hop_walk(
+        served,
+        FaceId(from),
+        FaceId(to),
+        Region::new(&mut lent),
+        steps,
+    ) {
         Found::Walk(walk) => Ok(Some(walk.moves())),
         _ => Ok(None),
     }
