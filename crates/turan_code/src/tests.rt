@@ -118,6 +118,9 @@ fn wrong_position<C: Ledger>(
 ) -> Option<usize>
     requires { 0 < stride }
 {
+    if view.parts().a.bits().len() != view.len() {
+        return Some(0);
+    }
     for p in 0..view.len() {
         let last = want.component.get(p) != want.component.get(p + 1);
         if (last || p % stride == 0)

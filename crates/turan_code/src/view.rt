@@ -288,6 +288,14 @@ impl<'a> TuranView<'a> {
         self.over(kind, before, steps)
     }
 
+    /// The sequences and the starts, which the code is read from position by position. No word is read.
+    #[inline]
+    pub fn parts(&self) -> TuranParts<'a>
+        ensures code { code_of_parts result ≡ code_of_view self.now }
+    {
+        self.parts
+    }
+
     /// How many positions there are: two for each edge. No word is read.
     #[inline]
     pub fn len(&self) -> usize
