@@ -3,8 +3,8 @@ use Rattle.std.specs.Prelude.{ℕ, ◌≡◌, ◌+◌, ◌*◌, List, length, ma
 use Rattle.topo_base.specs.declared.refusal.Table.{Table}
 use Rattle.topo_base.specs.declared.refusal.Table.TheVariants as table
 use Rattle.file_laws.specs.Contents.{Contents}
-use Rattle.table_dump.specs.Ends.{AreEnds}
-use Rattle.table_dump.specs.Places.{AreByRank}
+use Rattle.table_dump.specs.AtEnds.{AreEnds}
+use Rattle.table_dump.specs.ByRank.{AreByRank}
 
 -- how many words a dump is lent
 abbrev pub words_to_dump : Contents → ℕ

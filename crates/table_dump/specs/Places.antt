@@ -1,5 +1,5 @@
 -- The rows of contents by their places in the order of ids.
-use Rattle.std.specs.Prelude.{ℕ, ◌≡◌, ◌<◌, List, ◌∷◌, length, slice_index, Option, unwrap_or}
+use Rattle.std.specs.Prelude.{ℕ, List, ◌∷◌, slice_index, Option, unwrap_or}
 use Rattle.plane_model.specs.declared.rows.NodeRow.{NodeRow}
 use Rattle.plane_model.specs.declared.rows.EdgeRow.{EdgeRow}
 use Rattle.plane_model.specs.declared.rows.FaceRow.{FaceRow}
@@ -9,16 +9,7 @@ use Rattle.plane_model.specs.Sets.{rising}
 use Rattle.id_names.specs.Names.{number_of}
 use Rattle.file_laws.specs.Contents.{Contents}
 use Rattle.file_laws.specs.MapOfFile.{node_row, edge_row, region_row, member_row, place_of_face}
-
--- the id at a place of the ids in rising order
-abbrev pub id_at_rank : List ℕ → ℕ → ℕ
-id_at_rank ids place = slice_index (rising ids) place
-
--- each place has a number whose id stands there
-pub record AreByRank (ids numbers : List ℕ) : Type 0 where
-  pub size : length numbers ≡ length ids
-  pub within : (place : ℕ) → place < length ids → slice_index numbers place < length ids
-  pub id : (place : ℕ) → place < length ids → slice_index ids (slice_index numbers place) ≡ id_at_rank ids place
+use Rattle.table_dump.specs.ByRank.{id_at_rank}
 
 -- the row of the id at a place, from the id and its number
 abbrev pub row_at_rank : {R : Type 0} → List ℕ → (ℕ → ℕ → R) → ℕ → R

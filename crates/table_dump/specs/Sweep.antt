@@ -1,29 +1,38 @@
 -- What is known of ends after some positions were swept.
-use Rattle.std.specs.Prelude.{ℕ, ℤ, ◌≡◌, ◌≢◌, ◌<◌, ◌≤◌, ◌+◌, ◌-◌, ◌*◌, Bool, not, List, length, slice_index}
-use Rattle.code_laws.specs.Code.{after, component_of, is_tree, over, start_of}
+use Rattle.std.specs.Prelude.{ℕ, ◌≡◌, ◌<◌, ◌≤◌, ◌+◌, ◌-◌, ◌*◌, List, length, slice_index, false}
+use Rattle.code_laws.specs.Code.{component_of, over, start_of}
 use Rattle.code_laws.specs.Numbers.{edge_of}
+use Rattle.code_tour.specs.Passed.{IsPassed}
+use Rattle.code_tour.specs.declared.passed.Passed.{Passed}
 use Rattle.file_laws.specs.Contents.{Contents}
 use Rattle.file_laws.specs.MapOfFile.{face_at, is_forward_at, node_at, signed_at}
-use Rattle.table_dump.specs.Ends.{end_at, face_in, next_in, node_in}
+use Rattle.id_names.specs.Views.{names_in}
+use Rattle.id_names.specs.declared.view.NamesView.{NamesView}
+use Rattle.table_dump.specs.Ends.{end_at, with_sides}
+use Rattle.table_dump.specs.Filled.{AreFilled}
 use Rattle.table_dump.specs.declared.sweep.Behind.{Behind}
 
--- the end of a position, by the places of edges
-abbrev pub end_of : Contents → List ℕ → ℕ → ℕ
-end_of c places p = end_at (slice_index places (edge_of c.code p)) (is_forward_at c p)
+-- some position has these numbers
+pub record IsSomewhere (c : Contents) (passed : Passed) : Type 0 where
+  pub position : ℕ
+  pub within : position < length c.code.a
+  pub numbers : IsPassed c.code position passed
 
--- an end has the sides of a position
-pub record HasSides (c : Contents) (ends : List ℕ) (e p : ℕ) : Type 0 where
-  pub node : node_in ends e ≡ node_at c p
-  pub face : face_in ends e ≡ face_at c p
+-- the end of a position, by the places of the edges' ids
+abbrev pub end_of : Contents → NamesView → ℕ → ℕ
+end_of c edges p = end_at (slice_index (names_in edges).places (edge_of c.code p)) (is_forward_at c p)
 
--- the positions before p were swept, and what is kept is of the last of them: ends have their sides and, but for the end
--- of what follows the last, their next
-pub record AreSwept (c : Contents) (places ends : List ℕ) (p : ℕ) (behind : Behind) : Type 0 where
+-- the sides of a position were put, and this is what a sweep keeps of it if its component begins with it
+pub record IsPut (c : Contents) (edges : NamesView) (p : ℕ) (before after : List ℕ) (behind : Behind) : Type 0 where
+  pub ends : after ≡ with_sides before (end_of c edges p) (node_at c p) (face_at c p)
+  pub component : behind.component ≡ component_of c.code p
+  pub first : behind.first ≡ signed_at c p
+  pub end : behind.end ≡ end_of c edges (over c.code false p)
+
+-- the positions before p were swept, and this is kept of the last of them
+pub record AreSwept (c : Contents) (edges : NamesView) (p : ℕ) (ends : List ℕ) (behind : Behind) : Type 0 where
   pub some : 1 ≤ p
-  pub within : p ≤ length c.code.a
-  pub room : length ends ≡ 6 * length c.edges
-  pub sides : (q : ℕ) → q < p → HasSides c ends (end_of c places q) q
-  pub next : (q : ℕ) → q + 1 < p → next_in ends (end_of c places (over c.code false q)) ≡ signed_at c (after c.code q)
+  pub filled : AreFilled c.code (end_of c edges) (node_at c) (face_at c) (signed_at c) ends p
   pub component : behind.component ≡ component_of c.code (p - 1)
   pub first : behind.first ≡ signed_at c (start_of c.code (component_of c.code (p - 1)))
-  pub end : behind.end ≡ end_of c places (over c.code false (p - 1))
+  pub end : behind.end ≡ end_of c edges (over c.code false (p - 1))

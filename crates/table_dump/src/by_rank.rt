@@ -3,7 +3,7 @@
 ghost use Rattle.std.specs.Prelude.{◌≡◌, ◌≤◌, ◌+◌, ◌*◌, length};
 ghost use Rattle.scratch_region.specs.Numbers.{numbers_of};
 ghost use Rattle.id_names.specs.Views.{ids_of};
-ghost use Rattle.table_dump.specs.Places.{AreByRank};
+ghost use Rattle.table_dump.specs.ByRank.{AreByRank};
 
 use bit_words::Steps;
 use id_names::NamesView;

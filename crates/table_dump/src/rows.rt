@@ -6,8 +6,9 @@ ghost use Rattle.region_tree.specs.Nesting.{parent_number};
 ghost use Rattle.file_laws.specs.MapOfFile.{face_at_place, place_of_face};
 ghost use Rattle.pemb_file.specs.Served.{contents_of_view};
 ghost use Rattle.navigate.specs.Bound.{line_digits};
-ghost use Rattle.table_dump.specs.Places.{AreByRank, edge_at_rank, enclosing_face, face_with_zero, face_at_rank, members_at_rank, node_at_rank, region_at_rank};
-ghost use Rattle.table_dump.specs.Ends.{AreEnds};
+ghost use Rattle.table_dump.specs.Places.{edge_at_rank, enclosing_face, face_with_zero, face_at_rank, members_at_rank, node_at_rank, region_at_rank};
+ghost use Rattle.table_dump.specs.ByRank.{AreByRank};
+ghost use Rattle.table_dump.specs.AtEnds.{AreEnds};
 
 use crate::ends;
 use crate::ends::end_at;

@@ -1,19 +1,22 @@
 //! The ends of all edges, filled by one tour of the code.
 
-ghost use Rattle.std.specs.Prelude.{◌≡◌, ◌<◌, ◌≤◌, ◌+◌, ◌*◌, length, pos, neg_ℤ, IsTrue, if◌then◌else◌};
+ghost use Rattle.std.specs.Prelude.{ℕ, ◌≡◌, ◌<◌, ◌≤◌, ◌+◌, ◌*◌, length, pos, neg_ℤ, IsTrue, if◌then◌else◌};
 ghost use Rattle.topo_base.specs.declared.id.TheConstants.{LARGEST_ID};
 ghost use Rattle.id_names.specs.Names.{is_id};
 ghost use Rattle.scratch_region.specs.Numbers.{numbers_of};
 ghost use Rattle.scratch_region.specs.Region.{words_left};
 ghost use Rattle.code_tour.specs.Passed.{IsPassed};
+ghost use Rattle.id_names.specs.Views.{ids_of};
 ghost use Rattle.file_laws.specs.MapOfFile.{face_at};
 ghost use Rattle.pemb_file.specs.Served.{contents_of_view};
 ghost use Rattle.navigate.specs.Bound.{line_digits};
-ghost use Rattle.table_dump.specs.Sweep.{AreEnds, IsBehind, IsHere};
+ghost use Rattle.table_dump.specs.AtEnds.{AreEnds};
+ghost use Rattle.table_dump.specs.Sweep.{AreSwept, IsPut, IsSomewhere};
 
 use crate::ends::{end_at, put_next, put_sides};
 use bit_words::Steps;
 use code_tour::{Passed, Tour};
+use id_names::NamesView;
 use navigate::face_in;
 use pemb_file::Served;
 use scratch_region::{Numbers, Region};
@@ -43,23 +46,42 @@ fn with_direction(id: IdNumber, forward: bool) -> SignedNumber
 }
 
 /// The id of the face on the left of a position.
-fn face_of<C: Ledger>(served: Served<'_>, passed: Passed, steps: &mut Steps<C>) -> IdNumber {
-    let place = match passed.ring {
-        0 => served.place(passed.component as usize, steps) as usize,
-        shell => shell as usize,
+fn face_of<C: Ledger>(served: Served<'_>, passed: Passed, steps: &mut Steps<C>) -> IdNumber
+    requires { IsSomewhere (contents_of_view served) passed }
+    ensures face { (p : ℕ) → p < length (contents_of_view served.entry).code.a
+        → IsPassed (contents_of_view served.entry).code p passed → result ≡ face_at (contents_of_view served.entry) p }
+    ensures grows { steps.old ≤ steps.new }
+    ensures cost { steps.new ≤ steps.old + (3 * line_digits (contents_of_view served.entry) + 22) }
+{
+    let _code = served.code();
+    let place = if passed.ring == 0 {
+        served.place(passed.component as usize, steps)
+    } else {
+        passed.ring
     };
-    face_in(served, place, steps).0
+    face_in(served, place as usize, steps).0
 }
 
 /// Puts what stands at a position to its end. What a sweep keeps of it, if its component begins with it.
 fn put_position<C: Ledger>(
     served: Served<'_>,
+    edges: NamesView<'_>,
     passed: Passed,
     ends: &mut Numbers<'_>,
     steps: &mut Steps<C>,
-) -> Behind {
+) -> Behind
+    requires edges { ids_of edges ≡ (contents_of_view served).edges }
+    requires passed { IsSomewhere (contents_of_view served) passed }
+    requires room { length (numbers_of ends.old) ≡ 6 * length (contents_of_view served).edges }
+    ensures put { (p : ℕ) → p < length (contents_of_view served.entry).code.a
+        → IsPassed (contents_of_view served.entry).code p passed
+        → IsPut (contents_of_view served.entry) edges.entry p (numbers_of ends.old) (numbers_of ends.new) result }
+    ensures within { result.end < 2 * length (contents_of_view served.entry).edges }
+    ensures room { length (numbers_of ends.new) ≡ length (numbers_of ends.old) }
+    ensures some_steps { steps.old + 1 ≤ steps.new }
+    ensures cost { steps.new ≤ steps.old + (9 * line_digits (contents_of_view served.entry) + 63) }
+{
     let edge = passed.edge as usize;
-    let edges = served.edges();
     let place = edges.rank_of(edge, steps);
     let forward = passed.first == served.forward(edge, steps);
     let node = served.nodes().id_of(passed.node as usize, steps);
@@ -75,17 +97,33 @@ fn put_position<C: Ledger>(
 /// Puts what stands at a position that others stand before, and that its signed edge follows the one before it.
 fn put_next_position<C: Ledger>(
     served: Served<'_>,
+    edges: NamesView<'_>,
     passed: Passed,
     behind: Behind,
     ends: &mut Numbers<'_>,
     steps: &mut Steps<C>,
-) -> Behind {
-    let here = put_position(served, passed, ends, steps);
+) -> Behind
+    requires edges { ids_of edges ≡ (contents_of_view served).edges }
+    requires passed { IsSomewhere (contents_of_view served) passed }
+    requires room { length (numbers_of ends.old) ≡ 6 * length (contents_of_view served).edges }
+    requires within { behind.end < 2 * length (contents_of_view served).edges }
+    ensures swept { (p : ℕ) → p < length (contents_of_view served.entry).code.a
+        → IsPassed (contents_of_view served.entry).code p passed
+        → AreSwept (contents_of_view served.entry) edges.entry p (numbers_of ends.old) behind
+        → AreSwept (contents_of_view served.entry) edges.entry (p + 1) (numbers_of ends.new) result }
+    ensures within { result.end < 2 * length (contents_of_view served.entry).edges }
+    ensures room { length (numbers_of ends.new) ≡ length (numbers_of ends.old) }
+    ensures grows { steps.old ≤ steps.new }
+    ensures cost { steps.new ≤ steps.old + (9 * line_digits (contents_of_view served.entry) + 63) }
+{
+    let _count = edges.count();
+    let here = put_position(served, edges, passed, ends, steps);
     if here.component == behind.component {
         put_next(ends, behind.end, here.first);
         Behind {
+            component: here.component,
             first: behind.first,
-            ..here
+            end: here.end,
         }
     } else {
         put_next(ends, behind.end, behind.first);
@@ -93,20 +131,28 @@ fn put_next_position<C: Ledger>(
     }
 }
 
-/// Fills the ends of all edges. Each word is read a few times, and each position passed once.
+/// Fills the ends of all edges. Each position is passed once.
 pub(crate) fn fill_ends<C: Ledger>(
     served: Served<'_>,
     ends: &mut Numbers<'_>,
     room: Region<'_>,
     steps: &mut Steps<C>,
-) {
+)
+    requires room { length (numbers_of ends.old) ≡ 6 * length (contents_of_view served).edges }
+    requires words { length (contents_of_view served).edges ≤ words_left room }
+    ensures ends { AreEnds (contents_of_view served.entry) (numbers_of ends.new) }
+    ensures grows { steps.old ≤ steps.new }
+    ensures cost { steps.new ≤ steps.old + length (contents_of_view served.entry).edges
+        * (18 * line_digits (contents_of_view served.entry) + 134) }
+{
+    let edges = served.edges();
     let mut tour = Tour::new(served.code(), room);
     let Some(first) = tour.pass(steps) else {
         return;
     };
-    let mut behind = put_position(served, first, ends, steps);
+    let mut behind = put_position(served, edges, first, ends, steps);
     while let Some(passed) = tour.pass(steps) {
-        behind = put_next_position(served, passed, behind, ends, steps);
+        behind = put_next_position(served, edges, passed, behind, ends, steps);
     }
     put_next(ends, behind.end, behind.first);
 }
