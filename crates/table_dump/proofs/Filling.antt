@@ -46,28 +46,28 @@ module _ (k : Code) (s : SoundParts k) (end_of node face : ℕ → ℕ) (signed 
       → HasAlso more p × ((q : ℕ) → q + 1 < p → next_in more (end_of (over k false q)) ≡ signed (after k q))
   sides_on ends more p n f l room n_is f_is is filled = (
     λ q m.
-    elim (cases_eq q p) [
-      | inl same ↦ record {
-        node = ap (λ (xs : List ℕ). node_in xs (end_of q)) is ∙ ap (λ x. node_in (with_sides ends (end_of p) n f) (end_of x)) same ∙ node_put ends (end_of p) room n f ∙ n_is ∙ ap node (sym same);
-        face = ap (λ (xs : List ℕ). face_in xs (end_of q)) is ∙ ap (λ x. face_in (with_sides ends (end_of p) n f) (end_of x)) same ∙ face_put ends (end_of p) room n f ∙ f_is ∙ ap face (sym same);
-      }
-      | inr other ↦
-          let before : q < p = omega (arith, m, other) in
-          let apart : end_of q ≢ end_of p = λ e. other (once q p (omega (arith, before, l)) l e) in
-          let had = filled.sides q before in
-          record {
-            node = ap (λ (xs : List ℕ). node_in xs (end_of q)) is ∙ sides_stay ends (end_of p) (3 * end_of q) n f (λ e. apart (omega (arith, e))) (λ e. absurd (omega (arith, e))) ∙ had.node;
-            face = ap (λ (xs : List ℕ). face_in xs (end_of q)) is ∙ sides_stay ends (end_of p) (3 * end_of q + 1) n f (λ e. absurd (omega (arith, e))) (λ e. apart (omega (arith, e))) ∙ had.face;
+        elim (cases_eq q p) [
+          | inl same ↦ record {
+            node = ap (λ (xs : List ℕ). node_in xs (end_of q)) is ∙ ap (λ x. node_in (with_sides ends (end_of p) n f) (end_of x)) same ∙ node_put ends (end_of p) room n f ∙ n_is ∙ ap node (sym same);
+            face = ap (λ (xs : List ℕ). face_in xs (end_of q)) is ∙ ap (λ x. face_in (with_sides ends (end_of p) n f) (end_of x)) same ∙ face_put ends (end_of p) room n f ∙ f_is ∙ ap face (sym same);
           }
-    ],
+          | inr other ↦
+              let before : q < p = omega (arith, m, other) in
+              let apart : end_of q ≢ end_of p = λ e. other (once q p (omega (arith, before, l)) l e) in
+              let had = filled.sides q before in
+              record {
+                node = ap (λ (xs : List ℕ). node_in xs (end_of q)) is ∙ sides_stay ends (end_of p) (3 * end_of q) n f (λ e. apart (omega (arith, e))) (λ e. absurd (omega (arith, e))) ∙ had.node;
+                face = ap (λ (xs : List ℕ). face_in xs (end_of q)) is ∙ sides_stay ends (end_of p) (3 * end_of q + 1) n f (λ e. absurd (omega (arith, e))) (λ e. apart (omega (arith, e))) ∙ had.face;
+              }
+        ],
     λ q m.
-    let at = end_of (over k false q) in
-    ap (λ (xs : List ℕ). next_in xs at) is ∙ ap (cast_signed w64) (sides_stay ends (end_of p) (3 * at + 2) n f (λ e. absurd (omega (arith, e))) (λ e. absurd (omega (arith, e)))) ∙ filled.next q m,
+        let at = end_of (over k false q) in
+        ap (λ (xs : List ℕ). next_in xs at) is ∙ ap (cast_signed w64) (sides_stay ends (end_of p) (3 * at + 2) n f (λ e. absurd (omega (arith, e))) (λ e. absurd (omega (arith, e)))) ∙ filled.next q m,
   )
 
   -- what stays and what comes with the signed edge after the one before p
   module _ (ends more : List ℕ) (p at : ℕ) (z : ℤ) (some : 1 ≤ p) (l : p ≤ length k.a) (at_is : at ≡ end_of (over k false (p - 1))) (room : 3 * at + 2 < length ends) (fits : SFits w64 z) (z_is : z ≡ signed (after k (p - 1)))
-    (is : more ≡ slice_set ends (3 * at + 2) (cast_unsigned w64 z)) where
+      (is : more ≡ slice_set ends (3 * at + 2) (cast_unsigned w64 z)) where
     pub sides_kept : (e q : ℕ) → HasSides node face ends e q → HasSides node face more e q
     sides_kept e q had = record {
       node = ap (λ (xs : List ℕ). node_in xs e) is ∙ next_stays ends at (3 * e) (cast_unsigned w64 z) (λ x. absurd (omega (arith, x))) ∙ had.node;

@@ -46,6 +46,12 @@ module _ (v : NamesView) where
       let many = as_many in
       sym (rising_at (names_in v) (counts_of (counted v.ids.high)) (counts_of (counted v.inverse.marks)) v.right place (omega (arith, l, many)))
 
+  -- an id that stands at a place is the one of that rank
+  pub id_placed : (ids : List ℕ) (place id : ℕ) → ids_of v ≡ ids → place < length ids → id ≡ id_at (names_in v) place → id ≡ id_at_rank ids place
+  id_placed ids place id same l is =
+      let many = ap (λ (xs : List ℕ). length xs) same in
+      is ∙ id_there place (omega (arith, l, many)) ∙ ap (λ (xs : List ℕ). id_at_rank xs place) same
+
   pub number_id : (number : ℕ) → number < length (ids_of v) → slice_index (ids_of v) number ≡ id_at_rank (ids_of v) (place_in v number)
   number_id number l =
       let many = as_many in
@@ -63,16 +69,16 @@ module _ (v : NamesView) where
   one_put numbers more k place l at is put = record {
     size = ap (λ (xs : List ℕ). length xs) is ∙ length-set numbers place k ∙ put.size;
     done = λ number m.
-    ap (λ (xs : List ℕ). slice_index xs (place_in v number)) is
-    ∙ elim (cases_eq number k) [
-      | inl same ↦
-          let size = put.size in
-          let within = place_within k l in
-          ap (slice_index (slice_set numbers place k)) (ap (place_in v) same ∙ sym at) ∙ get_or-set_same numbers place k 0 (omega (arith, at, within, size)) ∙ sym same
-      | inr other ↦
-          let before : number < k = omega (arith, m, other) in
-          get_or-set_other numbers place (place_in v number) k 0 (λ e. other (place_once number k (omega (arith, before, l)) l (e ∙ at))) ∙ put.done number before
-    ];
+        ap (λ (xs : List ℕ). slice_index xs (place_in v number)) is
+        ∙ elim (cases_eq number k) [
+          | inl same ↦
+              let size = put.size in
+              let within = place_within k l in
+              ap (slice_index (slice_set numbers place k)) (ap (place_in v) same ∙ sym at) ∙ get_or-set_same numbers place k 0 (omega (arith, at, within, size)) ∙ sym same
+          | inr other ↦
+              let before : number < k = omega (arith, m, other) in
+              get_or-set_other numbers place (place_in v number) k 0 (λ e. other (place_once number k (omega (arith, before, l)) l (e ∙ at))) ∙ put.done number before
+        ];
   }
 
   -- all of them
@@ -81,8 +87,8 @@ module _ (v : NamesView) where
     size = put.size;
     within = λ place l. let n = number_at place l in omega (arith, n.1, n.2);
     id = λ place l.
-    let n = number_at place l in
-    ap (slice_index (ids_of v)) n.2 ∙ number_id n.0 n.1 ∙ ap (id_at_rank (ids_of v)) n.3;
+        let n = number_at place l in
+        ap (slice_index (ids_of v)) n.2 ∙ number_id n.0 n.1 ∙ ap (id_at_rank (ids_of v)) n.3;
   }
     where
       number_at : (place : ℕ) → place < length (ids_of v) → (number : ℕ) × (number < length (ids_of v)) × (slice_index numbers place ≡ number) × (place_in v number ≡ place)

@@ -68,7 +68,7 @@ module _ (c : Contents) (w : WholeParts c) (edges : NamesView) (same_ids : ids_o
   first_swept before ends here l room put =
       let below = end_within 0 l in
       let filled = sides_on c.code w.seen.sound (end_of c edges) (node_at c) (face_at c) (signed_at c) end_once before ends 0 (node_at c 0) (face_at c 0) l (omega (arith, room, below)) refl refl put.ends
-          (none_filled c.code w.seen.sound (end_of c edges) (node_at c) (face_at c) (signed_at c) end_once before) in
+      (none_filled c.code w.seen.sound (end_of c edges) (node_at c) (face_at c) (signed_at c) end_once before) in
       record {
         some = omega arith;
         filled = record { sides = λ q m. filled.0 q (omega (arith, m)); next = λ q m. absurd (omega (arith, m)) };
@@ -78,7 +78,7 @@ module _ (c : Contents) (w : WholeParts c) (edges : NamesView) (same_ids : ids_o
       }
 
   module _ (p : ℕ) (before mid more : List ℕ) (behind here : Behind) (l : p < length c.code.a) (room : length before ≡ 6 * length c.edges) (long : length mid ≡ length before) (within : behind.end < 2 * length c.edges)
-    (swept : AreSwept c edges p before behind) (put : IsPut c edges p before mid here) where
+      (swept : AreSwept c edges p before behind) (put : IsPut c edges p before mid here) where
     abbrev last : ℕ
     last = p - 1
 

@@ -12,6 +12,7 @@ use crate::by_rank::put_by_rank;
 use crate::ends::NUMBERS;
 use crate::sweep::fill_ends;
 use bit_words::Steps;
+use code_tour::Tour;
 use pemb_file::Served;
 use scratch_region::{Numbers, Region};
 use std::sync::ledger::Ledger;
@@ -58,7 +59,10 @@ pub(crate) fn read_ahead<'r, C: Ledger>(
     };
     match table {
         Table::Node => put_by_rank(served.nodes(), &mut ahead, steps),
-        Table::Edge => fill_ends(served, &mut ahead, room, steps),
+        Table::Edge => {
+            let mut tour = Tour::new(served.code(), room);
+            fill_ends(served, &mut tour, &mut ahead, steps);
+        }
         Table::Member => put_by_rank(served.faces(), &mut ahead, steps),
         Table::Face | Table::Region => {}
     }

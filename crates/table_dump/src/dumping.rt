@@ -41,11 +41,51 @@ fn write_tables<H: Shelf, C: Ledger>(
     ensures paid { steps.new ≤ steps.old + most_dump_words (served_map served.entry) }
 {
     let mut text = Gathered::new();
-    write_table(served, Table::Node, names.node, words, shelf, &mut text, steps)?;
-    write_table(served, Table::Edge, names.edge, words, shelf, &mut text, steps)?;
-    write_table(served, Table::Face, names.face, words, shelf, &mut text, steps)?;
-    write_table(served, Table::Region, names.region, words, shelf, &mut text, steps)?;
-    write_table(served, Table::Member, names.member, words, shelf, &mut text, steps)
+    write_table(
+        served,
+        Table::Node,
+        names.node,
+        words,
+        shelf,
+        &mut text,
+        steps,
+    )?;
+    write_table(
+        served,
+        Table::Edge,
+        names.edge,
+        words,
+        shelf,
+        &mut text,
+        steps,
+    )?;
+    write_table(
+        served,
+        Table::Face,
+        names.face,
+        words,
+        shelf,
+        &mut text,
+        steps,
+    )?;
+    write_table(
+        served,
+        Table::Region,
+        names.region,
+        words,
+        shelf,
+        &mut text,
+        steps,
+    )?;
+    write_table(
+        served,
+        Table::Member,
+        names.member,
+        words,
+        shelf,
+        &mut text,
+        steps,
+    )
 }
 
 /// Writes the tables of an opened file's map under five names that differ, rows rising by id and members by face, each

@@ -14,7 +14,8 @@ pub(crate) const NUMBERS: usize = 3;
 /// The end of the edge at a place in the order of ids, at the position of its forward signed edge or at the other one.
 pub(crate) fn end_at(place: usize, forward: bool) -> usize
     requires { place < 16777216 }
-    ensures { result ≡ end_at place forward }
+    ensures end { result ≡ end_at place forward }
+    ensures few { result < 33554432 }
 {
     if forward { 2 * place } else { 2 * place + 1 }
 }

@@ -4,10 +4,11 @@ ghost use Rattle.std.specs.Prelude.{ℕ, ◌≡◌, ◌<◌, ◌≤◌, ◌+◌,
 ghost use Rattle.topo_base.specs.declared.id.TheConstants.{LARGEST_ID};
 ghost use Rattle.id_names.specs.Names.{is_id};
 ghost use Rattle.scratch_region.specs.Numbers.{numbers_of};
-ghost use Rattle.scratch_region.specs.Region.{words_left};
 ghost use Rattle.code_tour.specs.Passed.{IsPassed};
+ghost use Rattle.code_tour.specs.Tour.{code_in, position_of};
 ghost use Rattle.id_names.specs.Views.{ids_of};
-ghost use Rattle.file_laws.specs.MapOfFile.{face_at};
+ghost use Rattle.code_laws.specs.Numbers.{ring_of};
+ghost use Rattle.file_laws.specs.MapOfFile.{face_at, place_of_ring};
 ghost use Rattle.pemb_file.specs.Served.{contents_of_view};
 ghost use Rattle.navigate.specs.Bound.{line_digits};
 ghost use Rattle.table_dump.specs.AtEnds.{AreEnds};
@@ -19,7 +20,7 @@ use code_tour::{Passed, Tour};
 use id_names::NamesView;
 use navigate::face_in;
 use pemb_file::Served;
-use scratch_region::{Numbers, Region};
+use scratch_region::Numbers;
 use std::sync::ledger::Ledger;
 use topo_base::{IdNumber, SignedNumber};
 
@@ -45,20 +46,31 @@ fn with_direction(id: IdNumber, forward: bool) -> SignedNumber
     if forward { number } else { -number }
 }
 
-/// The id of the face on the left of a position.
-fn face_of<C: Ledger>(served: Served<'_>, passed: Passed, steps: &mut Steps<C>) -> IdNumber
+/// The place of the face on the left of a position: 0 for face 0, and else 1 + the number of the face.
+fn place_beside<C: Ledger>(served: Served<'_>, passed: Passed, steps: &mut Steps<C>) -> u32
     requires { IsSomewhere (contents_of_view served) passed }
-    ensures face { (p : ℕ) → p < length (contents_of_view served.entry).code.a
-        → IsPassed (contents_of_view served.entry).code p passed → result ≡ face_at (contents_of_view served.entry) p }
+    ensures place { (p : ℕ) → IsPassed (contents_of_view served.entry).code p passed
+        → result ≡ place_of_ring (contents_of_view served.entry) (ring_of (contents_of_view served.entry).code p) }
+    ensures within { result ≤ length (contents_of_view served.entry).faces }
     ensures grows { steps.old ≤ steps.new }
-    ensures cost { steps.new ≤ steps.old + (3 * line_digits (contents_of_view served.entry) + 22) }
+    ensures cost { steps.new ≤ steps.old + 2 }
 {
-    let _code = served.code();
-    let place = if passed.ring == 0 {
+    if passed.ring == 0 {
         served.place(passed.component as usize, steps)
     } else {
         passed.ring
-    };
+    }
+}
+
+/// The id of the face on the left of a position.
+fn face_beside<C: Ledger>(served: Served<'_>, passed: Passed, steps: &mut Steps<C>) -> IdNumber
+    requires { IsSomewhere (contents_of_view served) passed }
+    ensures face { (p : ℕ) → IsPassed (contents_of_view served.entry).code p passed
+        → result ≡ face_at (contents_of_view served.entry) p }
+    ensures grows { steps.old ≤ steps.new }
+    ensures cost { steps.new ≤ steps.old + (3 * line_digits (contents_of_view served.entry) + 22) }
+{
+    let place = place_beside(served, passed, steps);
     face_in(served, place as usize, steps).0
 }
 
@@ -85,7 +97,7 @@ fn put_position<C: Ledger>(
     let place = edges.rank_of(edge, steps);
     let forward = passed.first == served.forward(edge, steps);
     let node = served.nodes().id_of(passed.node as usize, steps);
-    let face = face_of(served, passed, steps);
+    let face = face_beside(served, passed, steps);
     put_sides(ends, end_at(place, forward), node, face);
     Behind {
         component: passed.component,
@@ -131,22 +143,22 @@ fn put_next_position<C: Ledger>(
     }
 }
 
-/// Fills the ends of all edges. Each position is passed once.
+/// Fills the ends of all edges by a tour of the code from its first position on.
 pub(crate) fn fill_ends<C: Ledger>(
     served: Served<'_>,
+    tour: &mut Tour<'_, '_>,
     ends: &mut Numbers<'_>,
-    room: Region<'_>,
     steps: &mut Steps<C>,
 )
+    requires code { code_in tour.old ≡ (contents_of_view served).code }
+    requires first { position_of tour.old ≡ 0 }
     requires room { length (numbers_of ends.old) ≡ 6 * length (contents_of_view served).edges }
-    requires words { length (contents_of_view served).edges ≤ words_left room }
     ensures ends { AreEnds (contents_of_view served.entry) (numbers_of ends.new) }
     ensures grows { steps.old ≤ steps.new }
     ensures cost { steps.new ≤ steps.old + length (contents_of_view served.entry).edges
         * (18 * line_digits (contents_of_view served.entry) + 134) }
 {
     let edges = served.edges();
-    let mut tour = Tour::new(served.code(), room);
     let Some(first) = tour.pass(steps) else {
         return;
     };

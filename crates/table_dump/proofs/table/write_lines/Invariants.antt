@@ -4,9 +4,9 @@ use Rattle.plane_model.specs.Texts.{table_text}
 use Rattle.pemb_file.specs.Served.{contents_of_view}
 use Rattle.navigate.specs.Bound.{served_map}
 use Rattle.table_dump.specs.Lines.{lines_from, row_count}
-use Rattle.table_dump.specs.Prices.{row_price}
+use Rattle.table_dump.specs.Prices.{line_price}
 use Rattle.table_dump.proofs.Putting.{IsOnWay}
-use Rattle.table_dump.proofs.table.write_table.Given as goal
+use Rattle.table_dump.proofs.table.write_lines.Given as goal
 
 abbrev pub invariant-loop-place : goal.invariant-loop-place
 invariant-loop-place g l =
@@ -17,5 +17,5 @@ invariant-loop-place g l =
       misses : g.H.Shelf.misses l.shelf ≡ g.H.Shelf.misses l.fn.shelf;
       write_faults : g.H.Shelf.write_faults l.shelf ≡ g.H.Shelf.write_faults l.fn.shelf;
       least : l.fn.steps + l.place ≤ l.steps;
-      paid : l.steps ≤ l.fn.steps + l.place * row_price (contents_of_view l.served) l.table;
+      paid : l.steps ≤ l.fn.steps + l.place * line_price (contents_of_view l.served) l.table;
     }

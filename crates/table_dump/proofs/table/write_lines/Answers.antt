@@ -4,11 +4,11 @@ use Rattle.pemb_file.specs.Served.{contents_of_view}
 use Rattle.navigate.specs.Bound.{served_map}
 use Rattle.navigate.proofs.Facts.{w}
 use Rattle.table_dump.specs.Lines.{line_at, lines_from, row_count}
-use Rattle.table_dump.specs.Prices.{row_price}
+use Rattle.table_dump.specs.Prices.{line_price}
 use Rattle.table_dump.proofs.ByPlace.{lines_more, text_by_place}
 use Rattle.table_dump.proofs.Putting.{begun, counts_failed, counts_more, counts_ok, counts_same, ended_err, ended_ok, not_begun, on_failure, places_read, stopped, went_on}
 use Rattle.table_dump.proofs.Sums.{row_paid, rows_paid}
-use Rattle.table_dump.proofs.table.write_table.Goals as goal
+use Rattle.table_dump.proofs.table.write_lines.Goals as goal
 
 pub returns-in_err-start-clause-part : goal.returns-in_err-start-clause-part
 returns-in_err-start-clause-part g c =
@@ -24,7 +24,7 @@ returns-in_err-gather-clause-part g c =
     let left = lines_from m c.args.table 0 (row_count m c.args.table) in
     let split = text_by_place m (w m c.args.served.whole) c.args.table ∙ ap (λ (z : List ℕ). z ++ left) (sym c.header.ensures.header) in
     on_failure _ _ c.from_residual-in_err-gather.ensures.1
-    (stopped _ c.args.name.now whole whole left c.header.result.now _ _ _ _ _ _ _ split (begun c.args.name.now whole _ _ _ c.requires c.in_ok-start.ensures.started c.in_ok-start.ensures.others) c.in_err-gather.ensures.writes)
+    (stopped _ c.args.name.now whole whole left c.header.result.now _ _ _ _ _ _ _ split (begun c.args.name.now whole _ _ _ c.requires.empty c.in_ok-start.ensures.started c.in_ok-start.ensures.others) c.in_err-gather.ensures.writes)
 
 pub returns-in_err-gather-clause-counted : goal.returns-in_err-gather-clause-counted
 returns-in_err-gather-clause-counted g c = counts_more _ _ _ _ _ c.in_ok-start.ensures.counted (counts_failed _ _ _ _ _ c.from_residual-in_err-gather.ensures.1 c.in_err-gather.ensures.writes.counted)
@@ -39,7 +39,7 @@ loop-place-init g c =
     record {
       way =
           went_on _ c.args.name.now whole whole (lines_from m c.args.table 0 (n - 0)) c.header.result.now _ _ _ _ _ _ _ split
-          (begun c.args.name.now whole _ _ _ c.requires c.in_ok-start.ensures.started c.in_ok-start.ensures.others) c.in_ok-gather.ensures.writes;
+          (begun c.args.name.now whole _ _ _ c.requires.empty c.in_ok-start.ensures.started c.in_ok-start.ensures.others) c.in_ok-gather.ensures.writes;
       held = c.in_ok-gather.ensures.writes.held;
       faults = c.in_ok-gather.ensures.no_fault ∙ c.in_ok-start.ensures.no_fault;
       misses = c.in_ok-gather.ensures.no_miss ∙ c.in_ok-start.ensures.no_miss;
@@ -88,7 +88,7 @@ returns-in_err-gather-2-clause-counted g c =
 
 pub returns-in_err-gather-2-clause-paid : goal.returns-in_err-gather-2-clause-paid
 returns-in_err-gather-2-clause-paid g c =
-    row_paid c.loop-place.place (row_count (contents_of_view c.args.served) c.args.table) (row_price (contents_of_view c.args.served) c.args.table) _ c.loop-place.steps _ (omega (arith, c.places-count.ensures.count)) c.loop-place.invariant.paid c.line_in-line.ensures.cost
+    row_paid c.loop-place.place (row_count (contents_of_view c.args.served) c.args.table) (line_price (contents_of_view c.args.served) c.args.table) _ c.loop-place.steps _ (omega (arith, c.places-count.ensures.count)) c.loop-place.invariant.paid c.line_in-line.ensures.cost
 
 pub returns-clause-written : goal.returns-clause-written
 returns-clause-written g c =
@@ -117,4 +117,4 @@ returns-clause-least g c =
 
 pub returns-clause-paid : goal.returns-clause-paid
 returns-clause-paid g c =
-    rows_paid c.loop-place.place (row_count (contents_of_view c.args.served) c.args.table) (row_price (contents_of_view c.args.served) c.args.table) _ _ (omega (arith, c.places-count.ensures.count)) c.loop-place.invariant.paid
+    rows_paid c.loop-place.place (row_count (contents_of_view c.args.served) c.args.table) (line_price (contents_of_view c.args.served) c.args.table) _ _ (omega (arith, c.places-count.ensures.count)) c.loop-place.invariant.paid
