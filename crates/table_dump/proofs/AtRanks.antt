@@ -1,21 +1,13 @@
 -- Ids, numbers and rows at places in the order of ids.
-use Rattle.std.specs.Prelude.{ℤ, slice_index, slice_index_or, unwrap_or, if◌then◌else◌}
-use Rattle.std.proofs.Common.{◌≡◌, ℕ, zero, suc, ◌+◌, ◌-◌, ◌*◌, ◌<◌, ◌≤◌, ◌==◌, inl, inr, Bool, true, false, List, [], ◌∷◌, length, refl, ap, sym, ◌∙◌, arith, subst, Option, Some, None}
+use Rattle.std.specs.Prelude.{ℤ, slice_index, unwrap_or, if◌then◌else◌}
+use Rattle.std.proofs.Common.{◌≡◌, ℕ, zero, suc, ◌+◌, ◌-◌, ◌*◌, ◌<◌, ◌≤◌, ◌==◌, inl, inr, true, false, List, [], ◌∷◌, length, refl, ap, sym, ◌∙◌, arith, Some, None}
 use Rattle.std.proofs.lemmas.Bool.{cases_Bool, lt-ltb, le-ltb, ne_eqb}
 use Rattle.bit_words.specs.Digits.{digits}
 use Rattle.bit_words.proofs.DigitLaws.{digits-mono}
-use Rattle.rank_select.specs.Counts.{counts_of}
-use Rattle.rank_select.specs.RankView.{counted}
-use Rattle.code_laws.specs.Code.{Code, mate, next}
-use Rattle.code_laws.specs.Numbers.{first_of_edge}
+use Rattle.code_laws.specs.Code.{mate, next}
 use Rattle.id_names.specs.Names.{AreDistinctIds, number_of}
-use Rattle.id_names.specs.RisingNames.{id_at}
-use Rattle.id_names.specs.Views.{ids_of, names_in}
-use Rattle.id_names.specs.declared.view.NamesView.{NamesView}
-use Rattle.id_names.proofs.NameLaws.{length-ids}
 use Rattle.id_names.proofs.NumberLaws.{number_of-at}
 use Rattle.region_tree.specs.Nesting.{region_at}
-use Rattle.region_tree.proofs.RisingIds.{rising_at}
 use Rattle.plane_model.specs.declared.rows.EdgeRow.{EdgeRow}
 use Rattle.plane_model.specs.declared.rows.MemberRow.{MemberRow}
 use Rattle.file_laws.specs.Contents.{Contents}
@@ -26,19 +18,6 @@ use Rattle.navigate.proofs.Facts.{w, place_next}
 use Rattle.table_dump.specs.Places.{enclosing_face, face_with_zero, members_at_rank, row_at_rank}
 use Rattle.table_dump.specs.ByRank.{id_at_rank}
 
--- the forward position of an edge, from the first one and the edge's bit
-pub forward_first : (c : Contents) (k : Code) (e first : ℕ) (b : Bool) → k ≡ c.code → Some first ≡ first_of_edge k e → b ≡ slice_index_or c.forward e false → b ≡ true → first ≡ forward_position c e
-unfolding forward_position
-forward_first c k e first b same found bit is =
-    let at : first_of_edge c.code e ≡ Some first = ap (λ (x : Code). first_of_edge x e) (sym same) ∙ sym found in
-    rw (at, sym bit ∙ is) refl
-
-pub forward_second : (c : Contents) (k : Code) (e first q : ℕ) (b : Bool) → k ≡ c.code → Some first ≡ first_of_edge k e → b ≡ slice_index_or c.forward e false → b ≡ false → q ≡ mate k first → q ≡ forward_position c e
-unfolding forward_position
-forward_second c k e first q b same found bit is other =
-    let at : first_of_edge c.code e ≡ Some first = ap (λ (x : Code). first_of_edge x e) (sym same) ∙ sym found in
-    rw (at, sym bit ∙ is) (other ∙ ap (λ (x : Code). mate x first) same)
-
 -- the number of the id at a place
 pub number_there : (bound : ℕ) (ids : List ℕ) (place number : ℕ) → AreDistinctIds bound ids → number < length ids → slice_index ids number ≡ id_at_rank ids place → unwrap_or (number_of ids (id_at_rank ids place)) 0 ≡ number
 number_there bound ids place number names l is = ap (λ o. unwrap_or o 0) (number_of-at ids number (id_at_rank ids place) names.distinct l is)
@@ -48,13 +27,6 @@ pub row_there : {R : Type 0} (bound : ℕ) (ids : List ℕ) (row : ℕ → ℕ �
     → row id number ≡ row_at_rank ids row place
 row_there bound ids row place number id names l is id_is =
     ap (λ x. row x number) (id_is ∙ is) ∙ ap (row (id_at_rank ids place)) (sym (number_there bound ids place number names l is))
-
--- what a view of names says of a place is what their ids in rising order say
-pub at_rank : (v : NamesView) (ids : List ℕ) (place number : ℕ) → ids_of v ≡ ids → place < length ids → slice_index (ids_of v) number ≡ id_at (names_in v) place → slice_index ids number ≡ id_at_rank ids place
-at_rank v ids place number same l is =
-    let many = ap (λ (xs : List ℕ). length xs) same in
-    let at = rising_at (names_in v) (counts_of (counted v.ids.high)) (counts_of (counted v.inverse.marks)) v.right place (omega (arith, l, many, length-ids (names_in v))) in
-    subst (λ (xs : List ℕ). slice_index xs number ≡ id_at_rank xs place) same (is ∙ sym at)
 
 -- the face round a node, from how many nodes have edges
 pub joined_is : (c : Contents) (nodes isolated : ℕ) → nodes ≡ length c.nodes → isolated ≡ length c.isolated → nodes - isolated ≡ joined_count c

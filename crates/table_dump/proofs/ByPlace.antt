@@ -1,7 +1,7 @@
 -- The text of each table is its header and the lines at its places.
 use Rattle.std.specs.Prelude.{filter, find, flat_map, map, nat_lt, not, option_and_then, option_map, slice_index, unwrap_or, decimal}
 use Rattle.std.specs.List.{list_all, range_with_len}
-use Rattle.std.proofs.Common.{◌≡◌, ◌⊎◌, ℕ, zero, suc, ◌+◌, ◌-◌, ◌<◌, ◌==◌, inl, inr, Bool, true, false, ◌&&◌, List, [], ◌∷◌, ◌++◌, length, refl, ap, sym, ◌∙◌, arith, subst, Option, Some, None, pos}
+use Rattle.std.proofs.Common.{◌≡◌, ◌⊎◌, ℕ, suc, ◌+◌, ◌-◌, ◌<◌, ◌==◌, inl, inr, Bool, true, List, [], ◌∷◌, ◌++◌, length, refl, ap, sym, ◌∙◌, arith, subst, Some, pos}
 use Rattle.std.proofs.lemmas.Bool.{and_parts, and_from, eq-eqb, lt-ltb, ne_eqb, or_left, or_right}
 use Rattle.std.proofs.lemmas.List.{map-append}
 use Rattle.std.proofs.lemmas.List.Concat.{flat_map-append}
@@ -10,7 +10,6 @@ use Rattle.topo_base.specs.declared.refusal.Table.{Table}
 use Rattle.topo_base.specs.declared.refusal.Table.TheVariants as table
 use Rattle.plane_model.specs.declared.rows.NodeRow.{NodeRow}
 use Rattle.plane_model.specs.declared.rows.EdgeRow.{EdgeRow}
-use Rattle.plane_model.specs.declared.rows.FaceRow.{FaceRow}
 use Rattle.plane_model.specs.declared.rows.RegionRow.{RegionRow}
 use Rattle.plane_model.specs.declared.rows.MemberRow.{MemberRow}
 use Rattle.plane_model.specs.Sets.{rising, has, is_distinct}
@@ -19,17 +18,16 @@ use Rattle.plane_model.specs.PlaneMap.{PlaneMap, no_edge, row_of}
 use Rattle.plane_model.specs.Rotation.{node_face}
 use Rattle.plane_model.specs.Regions.{parent}
 use Rattle.plane_model.specs.Texts.{text_line, number_or_empty, edge_fields, row_fields, table_text}
-use Rattle.plane_model.proofs.Sorting.{rising-has, rising-all, all_from, rising_strictly, strictly_rising_of}
+use Rattle.plane_model.proofs.Sorting.{rising-all, all_from, rising_strictly, strictly_rising_of}
 use Rattle.id_names.specs.Names.{number_of}
 use Rattle.file_laws.specs.Contents.{Contents}
-use Rattle.file_laws.specs.MapOfFile.{node_row, edge_row, region_row, member_row, place_of_face, rows_of_contents, member_rows}
+use Rattle.file_laws.specs.MapOfFile.{node_row, edge_row, region_row, member_row, place_of_face, member_rows}
 use Rattle.file_laws.proofs.Lists.{keys_kept, length-rising, rising_apart, strictly_apart, has-index, index-has, names_apart}
 use Rattle.file_laws.proofs.Bridge.{row_found}
 use Rattle.file_laws.proofs.Regions.{one_row, flat_find, faces_apart}
 use Rattle.file_laws.proofs.Rotation.{face_ids}
 use Rattle.file_laws.proofs.Whole.{WholeParts}
 use Rattle.navigate.specs.Bound.{map_with}
-use Rattle.table_dump.specs.Places.{members_at_rank}
 use Rattle.table_dump.specs.ByRank.{id_at_rank}
 use Rattle.table_dump.specs.Lines.{header_line, line_at, lines_from, member_text, row_count}
 

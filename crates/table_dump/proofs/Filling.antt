@@ -1,7 +1,7 @@
 -- What putting numbers to one end does to all ends, and so what a sweep has filled.
 use Rattle.std.specs.Prelude.{ℤ, slice_index, slice_set}
 use Rattle.std.specs.Int.{cast_signed, cast_unsigned, w64}
-use Rattle.std.proofs.Common.{◌≡◌, ◌≢◌, SFits, ℕ, ◌+◌, ◌-◌, ◌*◌, ◌<◌, ◌≤◌, inl, inr, true, false, List, length, refl, ap, sym, ◌∙◌, arith, subst}
+use Rattle.std.proofs.Common.{◌≡◌, ◌≢◌, SFits, ℕ, ◌+◌, ◌-◌, ◌*◌, ◌<◌, ◌≤◌, inl, inr, false, List, length, ap, sym, ◌∙◌, arith}
 use Rattle.std.proofs.lemmas.Bool.{cases_eq}
 use Rattle.std.proofs.lemmas.List.{get_or-set_same, get_or-set_other, length-set}
 use Rattle.std.proofs.lemmas.Int.{to_z-of_z}

@@ -1,9 +1,8 @@
 -- What a dump costs: each table by its rows, and all of them by the size of the map.
 use Rattle.std.proofs.Common.{◌≡◌, ℕ, ◌+◌, ◌*◌, ◌<◌, ◌≤◌, true, length, ap, ◌∙◌, arith}
 use Rattle.std.proofs.Math.Nat.{mul-le-mul_left}
-use Rattle.code_laws.specs.Numbers.{tree_edges}
 use Rattle.plane_model.specs.Consistent.{size}
-use Rattle.file_laws.specs.Contents.{Contents, component_count}
+use Rattle.file_laws.specs.Contents.{Contents}
 use Rattle.file_laws.specs.Lawful.{is_whole}
 use Rattle.file_laws.proofs.Sizes.{size_is}
 use Rattle.navigate.specs.Bound.{map_with, line_digits}

@@ -1,27 +1,26 @@
 -- What a sweep does at a position, and that all ends have what stands at their positions when it ends.
-use Rattle.std.specs.Prelude.{ℤ, not, slice_index, slice_index_or, slice_set, unwrap_or, if◌then◌else◌}
+use Rattle.std.specs.Prelude.{ℤ, not, slice_index, slice_index_or, slice_set, if◌then◌else◌}
 use Rattle.std.specs.Int.{cast_unsigned, w64}
-use Rattle.std.proofs.Common.{◌≡◌, ◌≢◌, SFits, ℕ, ◌+◌, ◌-◌, ◌*◌, ◌<◌, ◌≤◌, inl, inr, Bool, true, false, List, length, refl, ap, sym, ◌∙◌, arith, subst}
+use Rattle.std.proofs.Common.{◌≡◌, ◌≢◌, SFits, ℕ, ◌+◌, ◌-◌, ◌*◌, ◌<◌, inl, inr, Bool, true, false, List, length, refl, ap, sym, ◌∙◌, arith, subst}
 use Rattle.std.proofs.lemmas.Bool.{cases_Bool}
 use mathlib.Core.Bool.{beq}
 use Rattle.bit_words.specs.Bits.{same}
-use Rattle.code_laws.specs.Code.{after, component_of, is_first, is_tree, mate, next, over, start_of}
+use Rattle.code_laws.specs.Code.{after, component_of, is_first, is_tree, mate, over, start_of}
 use Rattle.code_laws.specs.Numbers.{edge_of}
 use Rattle.code_laws.proofs.Edges.{edge_there, laws}
-use Rattle.id_names.specs.Names.{number_of}
 use Rattle.id_names.specs.Views.{ids_of}
 use Rattle.id_names.specs.declared.view.NamesView.{NamesView}
-use Rattle.id_names.proofs.NumberLaws.{number_of-at}
 use Rattle.file_laws.specs.Contents.{Contents}
 use Rattle.file_laws.specs.MapOfFile.{face_at, forward_position, is_forward_at, node_at, signed_at}
 use Rattle.file_laws.proofs.Bridge.{e_in, forward_at, forward_mate}
 use Rattle.file_laws.proofs.Whole.{WholeParts}
 use Rattle.table_dump.specs.AtEnds.{AreEnds, IsEndOf, edge_number}
 use Rattle.table_dump.specs.ByRank.{id_at_rank}
-use Rattle.table_dump.specs.Ends.{end_at, next_in, node_in, face_in}
-use Rattle.table_dump.specs.Filled.{AreFilled, HasSides}
+use Rattle.table_dump.specs.Ends.{end_at}
+use Rattle.table_dump.specs.Filled.{AreFilled}
 use Rattle.table_dump.specs.Sweep.{AreSwept, IsPut, end_of}
 use Rattle.table_dump.specs.declared.sweep.Behind.{Behind}
+use Rattle.table_dump.proofs.AtRanks.{number_there}
 use Rattle.table_dump.proofs.Filling.{all_on, next_on, none_filled, sides_on}
 use Rattle.table_dump.proofs.Positions.{begins_first, end_below, ends_last, ends_there, goes_on, one_end, one_side, over_edge, over_side}
 use Rattle.table_dump.proofs.Ranked.{number_id, place_in, place_once, place_there, place_within}
@@ -156,7 +155,7 @@ module _ (c : Contents) (w : WholeParts c) (edges : NamesView) (same_ids : ids_o
           let low : n.0 < length c.edges = omega (arith, n.1, many) in
           let x = edge_there c.code w.seen.sound n.0 (omega (arith, low, sizes)) in
           let id : slice_index c.edges n.0 ≡ id_at_rank c.edges place = subst (λ (ids : List ℕ). slice_index ids n.0 ≡ id_at_rank ids place) same_ids (number_id edges n.0 n.1 ∙ ap (id_at_rank (ids_of edges)) n.2) in
-          let number : edge_number c place ≡ n.0 = ap (λ o. unwrap_or o 0) (number_of-at c.edges n.0 (id_at_rank c.edges place) w.edge_names.distinct low id) in
+          let number : edge_number c place ≡ n.0 = number_there _ c.edges place n.0 w.edge_names low id in
           by place n.0 x.0 l n.2 x.1 x.3 number
 
   -- where there is no position

@@ -1,5 +1,5 @@
 -- What is read ahead for a table, and how many words it takes.
-use Rattle.std.specs.Prelude.{ℕ, ◌≡◌, ◌+◌, ◌*◌, List, length, max, ⊤}
+use Rattle.std.specs.Prelude.{ℕ, ◌*◌, List, length, max, ⊤}
 use Rattle.topo_base.specs.declared.refusal.Table.{Table}
 use Rattle.topo_base.specs.declared.refusal.Table.TheVariants as table
 use Rattle.file_laws.specs.Contents.{Contents}

@@ -1,5 +1,5 @@
 -- What is known of ends after some positions were swept.
-use Rattle.std.specs.Prelude.{ℕ, ◌≡◌, ◌<◌, ◌≤◌, ◌+◌, ◌-◌, ◌*◌, List, length, slice_index, false}
+use Rattle.std.specs.Prelude.{ℕ, ◌≡◌, ◌<◌, ◌≤◌, ◌-◌, List, length, slice_index, false}
 use Rattle.code_laws.specs.Code.{component_of, over, start_of}
 use Rattle.code_laws.specs.Numbers.{edge_of}
 use Rattle.code_tour.specs.Passed.{IsPassed}

@@ -1,4 +1,4 @@
-use Rattle.std.proofs.Common.{◌≡◌, ◌+◌, ◌*◌, ◌≤◌, List, [], ◌∷◌, ℕ, arith, refl, length}
+use Rattle.std.proofs.Common.{[], ◌∷◌, arith, refl}
 use Rattle.topo_base.specs.declared.refusal.Table.TheVariants as table
 use Rattle.plane_model.specs.PlaneMap.{PlaneMap}
 use Rattle.plane_model.specs.Texts.{table_text}

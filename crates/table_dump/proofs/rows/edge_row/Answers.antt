@@ -1,5 +1,5 @@
 use Rattle.std.proofs.Math.Facts.{to_z-of_z}
-use Rattle.std.proofs.Common.{w64, SFits, rules, true, false, ◌≡◌, ◌<◌, ◌+◌, ℕ, List, length, arith, ap, ◌∙◌, refl}
+use Rattle.std.proofs.Common.{w64, SFits, rules, ◌+◌, ℕ, List, length, arith, ap, ◌∙◌, refl}
 use Rattle.bit_words.specs.Digits.{digits}
 use Rattle.code_laws.specs.Code.{mate}
 use Rattle.scratch_region.specs.Numbers.{numbers_of}

@@ -1,5 +1,5 @@
 use Rattle.std.specs.Prelude.{slice_index}
-use Rattle.std.proofs.Common.{◌<◌, ◌+◌, ◌-◌, ℕ, length, arith, ap, ◌∙◌}
+use Rattle.std.proofs.Common.{◌-◌, arith, ap, ◌∙◌}
 use Rattle.pemb_file.specs.Served.{contents_of_view}
 use Rattle.navigate.proofs.Facts.{few_faces}
 use Rattle.table_dump.proofs.AtRanks.{later_place, later_face}

@@ -1,4 +1,4 @@
-use Rattle.std.proofs.Common.{◌≡◌, ◌<◌, ◌+◌, ℕ, List, length, arith, ap, ◌∙◌}
+use Rattle.std.proofs.Common.{◌+◌, ℕ, List, length, arith, ap}
 use Rattle.bit_words.specs.Digits.{digits}
 use Rattle.plane_model.specs.declared.rows.FaceRow.{FaceRow}
 use Rattle.pemb_file.specs.Served.{contents_of_view}

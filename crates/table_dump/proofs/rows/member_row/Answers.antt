@@ -1,5 +1,5 @@
 use Rattle.std.specs.Prelude.{slice_index}
-use Rattle.std.proofs.Common.{refl, ◌≡◌, ◌<◌, ◌+◌, ℕ, List, length, arith, ap, sym, ◌∙◌}
+use Rattle.std.proofs.Common.{refl, length, arith, ap, ◌∙◌}
 use Rattle.region_tree.specs.Nesting.{region_at}
 use Rattle.region_tree.specs.RegionView.{Regions}
 use Rattle.pemb_file.specs.Served.{contents_of_view}

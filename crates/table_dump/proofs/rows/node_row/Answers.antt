@@ -1,5 +1,5 @@
 use Rattle.std.specs.Prelude.{slice_index}
-use Rattle.std.proofs.Common.{◌≡◌, ◌<◌, ◌+◌, ℕ, List, length, arith, ap, sym, ◌∙◌, Option}
+use Rattle.std.proofs.Common.{◌+◌, ℕ, List, length, arith, ap, sym, ◌∙◌, Option}
 use Rattle.bit_words.specs.Digits.{digits}
 use Rattle.plane_model.specs.declared.rows.NodeRow.{NodeRow}
 use Rattle.file_laws.specs.MapOfFile.{node_row}

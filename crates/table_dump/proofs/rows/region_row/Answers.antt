@@ -1,5 +1,5 @@
 use Rattle.std.specs.Prelude.{slice_index}
-use Rattle.std.proofs.Common.{◌≡◌, ◌<◌, ◌+◌, ℕ, List, length, arith, ap, sym, subst, ◌∙◌, Option}
+use Rattle.std.proofs.Common.{◌≡◌, ℕ, length, arith, ap, subst, ◌∙◌, Option}
 use Rattle.plane_model.specs.declared.rows.RegionRow.{RegionRow}
 use Rattle.region_tree.specs.RegionView.{Regions}
 use Rattle.file_laws.specs.MapOfFile.{region_row}

@@ -1,7 +1,7 @@
 use Rattle.std.specs.Prelude.{ℤ, slice_set}
 use Rattle.std.specs.Int.{cast_unsigned}
 use Rattle.std.proofs.Math.Facts.{to_z-of_z}
-use Rattle.std.proofs.Common.{w64, SFits, rules, ◌≡◌, ◌+◌, ◌*◌, ◌<◌, ◌≤◌, ℕ, List, length, arith, ap, sym, ◌∙◌, subst, refl}
+use Rattle.std.proofs.Common.{w64, SFits, rules, ◌≡◌, ◌+◌, ◌*◌, ◌<◌, ℕ, List, length, arith, ap, sym, ◌∙◌, subst, refl}
 use Rattle.std.proofs.lemmas.List.{length-set}
 use Rattle.scratch_region.specs.Numbers.{numbers_of}
 use Rattle.code_laws.specs.Code.{Code}

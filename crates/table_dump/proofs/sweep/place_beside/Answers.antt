@@ -1,4 +1,3 @@
-use Rattle.std.proofs.Common.{◌<◌, arith, ◌∙◌, sym, length}
 use Rattle.pemb_file.specs.Served.{contents_of_view}
 use Rattle.table_dump.proofs.RingPlaces.{outer_beside, outer_there, outer_within, shell_beside, shell_within}
 use Rattle.table_dump.proofs.sweep.place_beside.Goals as goal

@@ -1,6 +1,6 @@
 use Rattle.std.specs.Prelude.{slice_index}
 use Rattle.std.proofs.Math.Facts.{to_z-of_z}
-use Rattle.std.proofs.Common.{w64, SFits, rules, ◌≡◌, ◌+◌, ◌*◌, ◌<◌, ℕ, List, length, arith, ap, sym, ◌∙◌}
+use Rattle.std.proofs.Common.{w64, SFits, rules, ◌+◌, ℕ, List, length, arith, ap, sym, ◌∙◌}
 use Rattle.bit_words.specs.Digits.{digits}
 use Rattle.scratch_region.specs.Numbers.{numbers_of}
 use Rattle.file_laws.specs.MapOfFile.{node_at}

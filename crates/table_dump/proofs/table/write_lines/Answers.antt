@@ -1,12 +1,12 @@
-use Rattle.std.proofs.Common.{◌≡◌, ◌+◌, ◌-◌, ◌*◌, ◌<◌, ◌≤◌, ◌++◌, ℕ, List, [], arith, ap, sym, ◌∙◌, rules, refl}
+use Rattle.std.proofs.Common.{◌≡◌, ◌+◌, ◌-◌, ◌<◌, ◌++◌, ℕ, List, arith, ap, sym, ◌∙◌, rules}
 use Rattle.plane_model.specs.Texts.{table_text}
 use Rattle.pemb_file.specs.Served.{contents_of_view}
 use Rattle.navigate.specs.Bound.{served_map}
 use Rattle.navigate.proofs.Facts.{w}
-use Rattle.table_dump.specs.Lines.{line_at, lines_from, row_count}
+use Rattle.table_dump.specs.Lines.{lines_from, row_count}
 use Rattle.table_dump.specs.Prices.{line_price}
 use Rattle.table_dump.proofs.ByPlace.{lines_more, text_by_place}
-use Rattle.table_dump.proofs.Putting.{begun, counts_failed, counts_more, counts_ok, counts_same, ended_err, ended_ok, not_begun, on_failure, places_read, stopped, went_on}
+use Rattle.table_dump.proofs.Putting.{begun, counts_failed, counts_more, counts_same, ended_err, ended_ok, not_begun, on_failure, places_read, stopped, went_on}
 use Rattle.table_dump.proofs.Sums.{row_paid, rows_paid}
 use Rattle.table_dump.proofs.table.write_lines.Goals as goal
 

@@ -5,14 +5,14 @@ use Rattle.table_dump.specs.Dumped.{AreWritten, AreWrittenInPart, NamedText}
 use Rattle.topo_cli.proofs.FolderNames.{files_are, names_are}
 use Rattle.topo_cli.proofs.dumping.write_tables.Goals as goal
 
-pub dump-requires : goal.dump-requires
-dump-requires g c =
+pub dump-requires-clause-apart : goal.dump-requires-clause-apart
+dump-requires-clause-apart g c =
     names_are c.args.dir.now _ _ _ _ _ (record {
-      node = c.as_str-node.ensures.value ∙ c.requires.node;
-      edge = c.as_str-edge.ensures.value ∙ c.requires.edge;
-      face = c.as_str-face.ensures.value ∙ c.requires.face;
-      region = c.as_str-region.ensures.value ∙ c.requires.region;
-      member = c.as_str-member.ensures.value ∙ c.requires.member;
+      node = c.as_str-node.ensures.value ∙ c.requires.names.node;
+      edge = c.as_str-edge.ensures.value ∙ c.requires.names.edge;
+      face = c.as_str-face.ensures.value ∙ c.requires.names.face;
+      region = c.as_str-region.ensures.value ∙ c.requires.names.region;
+      member = c.as_str-member.ensures.value ∙ c.requires.names.member;
     })
 
 pub returns-in-Ok-clause-written : goal.returns-in-Ok-clause-written
@@ -20,11 +20,11 @@ returns-in-Ok-clause-written g c =
     let W : List NamedText → Type 0 = λ texts. WhereTold (AreWritten texts) (g.H.Shelf.files c.args.shelf.now) (g.H.Shelf.files c.dump.new.shelf) in
     subst W
     (files_are c.args.dir.now _ _ _ _ _ (served_map c.args.served) (record {
-      node = c.as_str-node.ensures.value ∙ c.requires.node;
-      edge = c.as_str-edge.ensures.value ∙ c.requires.edge;
-      face = c.as_str-face.ensures.value ∙ c.requires.face;
-      region = c.as_str-region.ensures.value ∙ c.requires.region;
-      member = c.as_str-member.ensures.value ∙ c.requires.member;
+      node = c.as_str-node.ensures.value ∙ c.requires.names.node;
+      edge = c.as_str-edge.ensures.value ∙ c.requires.names.edge;
+      face = c.as_str-face.ensures.value ∙ c.requires.names.face;
+      region = c.as_str-region.ensures.value ∙ c.requires.names.region;
+      member = c.as_str-member.ensures.value ∙ c.requires.names.member;
     }))
     c.in-Ok.ensures.written
 
@@ -33,11 +33,11 @@ returns-in-Err-WriteFault-clause-part g c =
     let W : List NamedText → Type 0 = λ texts. WhereTold (AreWrittenInPart texts) (g.H.Shelf.files c.args.shelf.now) (g.H.Shelf.files c.dump.new.shelf) in
     subst W
     (files_are c.args.dir.now _ _ _ _ _ (served_map c.args.served) (record {
-      node = c.as_str-node.ensures.value ∙ c.requires.node;
-      edge = c.as_str-edge.ensures.value ∙ c.requires.edge;
-      face = c.as_str-face.ensures.value ∙ c.requires.face;
-      region = c.as_str-region.ensures.value ∙ c.requires.region;
-      member = c.as_str-member.ensures.value ∙ c.requires.member;
+      node = c.as_str-node.ensures.value ∙ c.requires.names.node;
+      edge = c.as_str-edge.ensures.value ∙ c.requires.names.edge;
+      face = c.as_str-face.ensures.value ∙ c.requires.names.face;
+      region = c.as_str-region.ensures.value ∙ c.requires.names.region;
+      member = c.as_str-member.ensures.value ∙ c.requires.names.member;
     }))
     c.in-Err-WriteFault.ensures.part
 

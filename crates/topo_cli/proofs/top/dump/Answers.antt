@@ -40,6 +40,10 @@ pub returns-in-Err-table_names : goal.returns-in-Err-table_names
 returns-in-Err-table_names g c = λ script idle.
     wanting _ (Form.Dump c.args.file.now c.args.dir.now) (record { form = refl; unread = idle; kept = c.in-Ok.ensures.kept; counted = c.in-Ok-open.ensures.grows }) refl
 
+pub returns-in-Err-words_for_dump : goal.returns-in-Err-words_for_dump
+returns-in-Err-words_for_dump g c = λ script idle.
+    wanting _ (Form.Dump c.args.file.now c.args.dir.now) (record { form = refl; unread = idle; kept = c.in-Ok.ensures.kept; counted = c.in-Ok-open.ensures.grows }) refl
+
 pub returns-in-Ok-write_tables : goal.returns-in-Ok-write_tables
 returns-in-Ok-write_tables g c = λ script idle.
     let seen = c.deref.result.now in
