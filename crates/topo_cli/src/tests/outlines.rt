@@ -46,13 +46,11 @@ const OUTLINED: [Outlined; 3] = [
         folder: THETA,
         regions: "region_id,parent\n1,\n",
         members: "region_id,face_id\n1,1\n1,2\n",
-        told: &[
-            Told {
-                words: &["border", "map.pemb", "1"],
-                status: Status::Done,
-                out: "ring: -1 3\nborder 1: 1 2\n",
-            },
-        ],
+        told: &[Told {
+            words: &["border", "map.pemb", "1"],
+            status: Status::Done,
+            out: "ring: -1 3\nborder 1: 1 2\n",
+        }],
     },
     Outlined {
         folder: STRIP,
@@ -80,13 +78,11 @@ const OUTLINED: [Outlined; 3] = [
         folder: TRIANGLE,
         regions: "region_id,parent\n1,\n",
         members: "region_id,face_id\n",
-        told: &[
-            Told {
-                words: &["border", "map.pemb", "1"],
-                status: Status::Done,
-                out: "border 1: 0 0\n",
-            },
-        ],
+        told: &[Told {
+            words: &["border", "map.pemb", "1"],
+            status: Status::Done,
+            out: "border 1: 0 0\n",
+        }],
     },
 ];
 
