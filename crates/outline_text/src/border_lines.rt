@@ -32,7 +32,8 @@ fn append_region(text: &mut Vec<u8>, region: RegionId) -> Result<(), AllocError>
 
 /// Appends the last line of a region that the map has.
 fn append_counts(text: &mut Vec<u8>, region: RegionId, counts: RingCounts) -> Result<(), AllocError>
-    ensures { OnOk result (text.new.items ≡ text.old.items ++ region_text region.0 ++ counts_text counts.rings counts.edges ++ 10 ∷ []) }
+    ensures { OnOk result (text.new.items ≡ text.old.items ++ region_text region.0
+        ++ counts_text counts.rings counts.edges ++ 10 ∷ []) }
 {
     append_region(text, region)?;
     text.extend_from_slice(number_item(counts.rings).as_slice())?;

@@ -106,10 +106,12 @@ fn fresh_at<C: Ledger>(
     requires region { region < length (contents_of_view served).regions }
     requires place { place < 2 * length (contents_of_view served).edges }
     requires room { 2 * length (contents_of_view served).edges ≤ room_of marks.now }
-    ensures none { IsNone result → is_fresh_border (contents_of_view served.entry) region (is_marked marks.now) place ≡ false }
+    ensures none { IsNone result → is_fresh_border (contents_of_view served.entry) region (is_marked marks.now) place
+        ≡ false }
     ensures some { IfSome result (λ d. d ≡ signed_number (contents_of_view served.entry) place) }
     ensures known { IfSome result (λ d. IsTrue (has_signed_edge (served_map served.entry) d)) }
-    ensures fresh { IfSome result (λ _. IsTrue (is_fresh_border (contents_of_view served.entry) region (is_marked marks.now) place)) }
+    ensures fresh { IfSome result (λ _. IsTrue (is_fresh_border (contents_of_view served.entry) region
+        (is_marked marks.now) place)) }
     ensures grows { steps.old ≤ steps.new }
     ensures cost { steps.new ≤ steps.old + scan_price (contents_of_view served.entry) }
 {
@@ -135,15 +137,21 @@ pub(crate) fn first_unmarked<C: Ledger>(
     requires region { region < length (contents_of_view served).regions }
     requires from { from ≤ 2 * length (contents_of_view served).edges }
     requires room { 2 * length (contents_of_view served).edges ≤ room_of marks.now }
-    ensures none { IsNone result → (k : ℕ) → from ≤ k → k < 2 * length (contents_of_view served.entry).edges → is_fresh_border (contents_of_view served.entry) region (is_marked marks.now) k ≡ false }
-    ensures within { IfSome result (λ found. (from ≤ found.0) × (found.0 < 2 * length (contents_of_view served.entry).edges)) }
+    ensures none { IsNone result → (k : ℕ) → from ≤ k → k < 2 * length (contents_of_view served.entry).edges
+        → is_fresh_border (contents_of_view served.entry) region (is_marked marks.now) k ≡ false }
+    ensures within { IfSome result (λ found. (from ≤ found.0) × (found.0
+        < 2 * length (contents_of_view served.entry).edges)) }
     ensures edge { IfSome result (λ found. found.1 ≡ signed_number (contents_of_view served.entry) found.0) }
     ensures known { IfSome result (λ found. IsTrue (has_signed_edge (served_map served.entry) found.1)) }
-    ensures fresh { IfSome result (λ found. IsTrue (is_fresh_border (contents_of_view served.entry) region (is_marked marks.now) found.0)) }
-    ensures passed { IfSome result (λ found. (k : ℕ) → from ≤ k → k < found.0 → is_fresh_border (contents_of_view served.entry) region (is_marked marks.now) k ≡ false) }
+    ensures fresh { IfSome result (λ found. IsTrue (is_fresh_border (contents_of_view served.entry) region
+        (is_marked marks.now) found.0)) }
+    ensures passed { IfSome result (λ found. (k : ℕ) → from ≤ k → k < found.0
+        → is_fresh_border (contents_of_view served.entry) region (is_marked marks.now) k ≡ false) }
     ensures grows { steps.old ≤ steps.new }
-    ensures cost { IfSome result (λ found. steps.new ≤ steps.old + scan_price (contents_of_view served.entry) * (found.0 + 1 - from)) }
-    ensures cost_none { IsNone result → steps.new ≤ steps.old + scan_price (contents_of_view served.entry) * (2 * length (contents_of_view served.entry).edges - from) }
+    ensures cost { IfSome result (λ found. steps.new ≤ steps.old + scan_price (contents_of_view served.entry)
+        * (found.0 + 1 - from)) }
+    ensures cost_none { IsNone result → steps.new ≤ steps.old + scan_price (contents_of_view served.entry)
+        * (2 * length (contents_of_view served.entry).edges - from) }
 {
     let end = served.code().len();
     for place in from..end {

@@ -14,11 +14,17 @@ ghost use Rattle.region_border.specs.Looked.{passed};
 /// In consistent tables the outline takes the border edges of a region to border edges, no two to one. Each signed edge
 /// before the one found has faces inside on both hands.
 pub fn outline_permutes()
-    ensures permutes { (t : Rows) (r : ℕ) → IsTrue (is_in_range t) → IsTrue (is_consistent t) → Permutes (filter (is_border (map_of t) r) (signed_edges (map_of t))) (outline (map_of t) r) }
-    ensures inside { (t : Rows) (r : ℕ) (d e : ℤ) → IsTrue (is_in_range t) → IsTrue (is_consistent t) → IsTrue (has_edge (signed_edges (map_of t)) d) → IsTrue (is_border (map_of t) r d) → IsTrue (has_edge (passed (map_of t) r d) e) → IsTrue (is_inside (map_of t) r (side (map_of t) e)) × IsTrue (is_inside (map_of t) r (side (map_of t) (reverse e))) }
+    ensures permutes { (t : Rows) (r : ℕ) → IsTrue (is_in_range t) → IsTrue (is_consistent t)
+        → Permutes (filter (is_border (map_of t) r) (signed_edges (map_of t))) (outline (map_of t) r) }
+    ensures inside { (t : Rows) (r : ℕ) (d e : ℤ) → IsTrue (is_in_range t) → IsTrue (is_consistent t)
+        → IsTrue (has_edge (signed_edges (map_of t)) d) → IsTrue (is_border (map_of t) r d)
+        → IsTrue (has_edge (passed (map_of t) r d) e) → IsTrue (is_inside (map_of t) r (side (map_of t) e))
+        × IsTrue (is_inside (map_of t) r (side (map_of t) (reverse e))) }
 {}
 
 /// All border rings together are the border edges, each once.
 pub fn border_is_all()
-    ensures { (t : Rows) (r : ℕ) → IsTrue (is_in_range t) → IsTrue (is_consistent t) → IsAllOf (filter (is_border (map_of t) r) (signed_edges (map_of t))) (flat_map (λ ds. ds) (border (map_of t) r)) }
+    ensures { (t : Rows) (r : ℕ) → IsTrue (is_in_range t) → IsTrue (is_consistent t)
+        → IsAllOf (filter (is_border (map_of t) r) (signed_edges (map_of t))) (flat_map
+        (λ ds. ds) (border (map_of t) r)) }
 {}

@@ -27,7 +27,8 @@ pub struct BorderWalk<'a> {
     ring: Option<Ring>,
     ghost region_in: { region < length (contents_of_view served).regions },
     ghost seen_in: { seen ≤ 2 * length (contents_of_view served).edges },
-    ghost standing: { IsStanding (map_with (contents_of_view served)) (slice_index (contents_of_view served).regions region) seen ring },
+    ghost standing: { IsStanding (map_with (contents_of_view served))
+        (slice_index (contents_of_view served).regions region) seen ring },
 }
 
 impl<'a> BorderWalk<'a> {
@@ -44,9 +45,11 @@ impl<'a> BorderWalk<'a> {
     pub(crate) fn begin(served: Served<'a>, region: usize) -> BorderWalk<'a>
         requires { region < length (contents_of_view served).regions }
         ensures contents { contents_in result ≡ contents_of_view served.entry }
-        ensures list { rest result ≡ items_of (border (served_map served.entry) (slice_index (contents_of_view served.entry).regions region)) }
+        ensures list { rest result ≡ items_of (border (served_map served.entry) (slice_index (contents_of_view
+            served.entry).regions region)) }
         ensures given { given result ≡ [] }
-        ensures paid { allowance result ≡ walk_price (contents_of_view served.entry) (slice_index (contents_of_view served.entry).regions region) 0 (rest result) }
+        ensures paid { allowance result ≡ walk_price (contents_of_view served.entry) (slice_index (contents_of_view
+            served.entry).regions region) 0 (rest result) }
     {
         BorderWalk {
             served,

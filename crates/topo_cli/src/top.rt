@@ -198,7 +198,8 @@ fn border<H: Shelf, K: Sink, L: Ledger>(
     steps: &mut Steps<L>,
 ) -> Status
     ensures { (script : SourceCall) → IsIdle script → IsPromised (call_of (Some (Form.Border file.now region.0))
-        (shelf_call H.files H.misses H.faults H.write_faults shelf.old shelf.new) script (sink_call K.held K.faults out.old out.new) steps.old steps.new) result }
+        (shelf_call H.files H.misses H.faults H.write_faults shelf.old shelf.new) script
+        (sink_call K.held K.faults out.old out.new) steps.old steps.new) result }
 {
     let bytes = match load_file(alloc, shelf, file) {
         Ok(bytes) => bytes,
