@@ -25,6 +25,6 @@ pub fn outline_permutes()
 /// All border rings together are the border edges, each once.
 pub fn border_is_all()
     ensures { (t : Rows) (r : ℕ) → IsTrue (is_in_range t) → IsTrue (is_consistent t)
-        → IsAllOf (filter (is_border (map_of t) r) (signed_edges (map_of t))) (flat_map
-        (λ ds. ds) (border (map_of t) r)) }
+        → IsAllOf (filter (is_border (map_of t) r) (signed_edges (map_of t)))
+        (flat_map (λ ds. ds) (border (map_of t) r)) }
 {}

@@ -27,8 +27,8 @@ fn is_inside<C: Ledger>(
 ) -> bool
     requires region { region < length (contents_of_view served).regions }
     requires face { IsTrue (is_face (served_map served) face.0) }
-    ensures inside { result ≡ borders.is_inside (served_map served.entry) (slice_index (contents_of_view
-        served.entry).regions region) face.0 }
+    ensures inside { result ≡ borders.is_inside (served_map served.entry)
+        (slice_index (contents_of_view served.entry).regions region) face.0 }
     ensures grows { steps.old ≤ steps.new }
     ensures cost { steps.new ≤ steps.old + inside_price (contents_of_view served.entry) }
 {
@@ -54,8 +54,8 @@ pub(crate) fn is_border<C: Ledger>(
 ) -> bool
     requires region { region < length (contents_of_view served).regions }
     requires edge { IsTrue (has_signed_edge (served_map served) edge) }
-    ensures border { result ≡ borders.is_border (served_map served.entry) (slice_index (contents_of_view
-        served.entry).regions region) edge }
+    ensures border { result ≡ borders.is_border (served_map served.entry)
+        (slice_index (contents_of_view served.entry).regions region) edge }
     ensures grows { steps.old ≤ steps.new }
     ensures cost { steps.new ≤ steps.old + border_price (contents_of_view served.entry) }
 {
@@ -92,12 +92,12 @@ pub(crate) fn outline_of<C: Ledger>(
 ) -> Signed
     requires region { region < length (contents_of_view served).regions }
     requires edge { IsTrue (has_signed_edge (served_map served) edge) }
-    ensures outline { result ≡ borders.outline (served_map served.entry) (slice_index (contents_of_view
-        served.entry).regions region) edge }
+    ensures outline { result ≡ borders.outline (served_map served.entry)
+        (slice_index (contents_of_view served.entry).regions region) edge }
     ensures known { IsTrue (has_signed_edge (served_map served.entry) result) }
     ensures some_steps { steps.old + 1 ≤ steps.new }
-    ensures cost { steps.new ≤ steps.old + look_price (contents_of_view served.entry) * length (looked (served_map
-        served.entry) (slice_index (contents_of_view served.entry).regions region) edge) }
+    ensures cost { steps.new ≤ steps.old + look_price (contents_of_view served.entry)
+        * length (looked (served_map served.entry) (slice_index (contents_of_view served.entry).regions region) edge) }
 {
     let mut at = next_after(served, edge, steps);
     for _ in 0..served.code().len() {

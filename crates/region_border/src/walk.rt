@@ -45,11 +45,11 @@ impl<'a> BorderWalk<'a> {
     pub(crate) fn begin(served: Served<'a>, region: usize) -> BorderWalk<'a>
         requires { region < length (contents_of_view served).regions }
         ensures contents { contents_in result ≡ contents_of_view served.entry }
-        ensures list { rest result ≡ items_of (border (served_map served.entry) (slice_index (contents_of_view
-            served.entry).regions region)) }
+        ensures list { rest result ≡ items_of (border (served_map served.entry)
+            (slice_index (contents_of_view served.entry).regions region)) }
         ensures given { given result ≡ [] }
-        ensures paid { allowance result ≡ walk_price (contents_of_view served.entry) (slice_index (contents_of_view
-            served.entry).regions region) 0 (rest result) }
+        ensures paid { allowance result ≡ walk_price (contents_of_view served.entry)
+            (slice_index (contents_of_view served.entry).regions region) 0 (rest result) }
     {
         BorderWalk {
             served,

@@ -27,8 +27,8 @@ pub fn border_walk<'a, C: Ledger>(
     ensures known { is_some result ≡ is_region (served_map served.entry) region.0 }
     ensures contents { IfSome result (λ w. contents_in w ≡ contents_of_view served.entry) }
     ensures list { IfSome result (λ w. rest w ≡ items_of (border (served_map served.entry) region.0)) }
-    ensures edges { IfSome result (λ w. IsAllOf (filter (is_border (served_map served.entry) region.0) (signed_edges
-        (served_map served.entry))) (edges_in (rest w))) }
+    ensures edges { IfSome result (λ w. IsAllOf (filter (is_border (served_map served.entry) region.0)
+        (signed_edges (served_map served.entry))) (edges_in (rest w))) }
     ensures given { IfSome result (λ w. given w ≡ []) }
     ensures grows { steps.old ≤ steps.new }
     ensures paid { MatchOption result (steps.new ≤ steps.old + most_words (served_map served.entry) 0 0)
