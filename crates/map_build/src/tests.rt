@@ -13,7 +13,9 @@ use std::marker::Brand;
 use std::sync::ledger::{Blank, Ledger};
 use std::test::Fail;
 use topo_base::{IdNumber, Refusal, Table};
-use worked_maps::{Edge, Member, Node, Region, TRIANGLE, tables, tables_with_regions, within_limits};
+use worked_maps::{
+    Edge, Member, Node, Region, TRIANGLE, tables, tables_with_regions, within_limits,
+};
 
 /// The edges of six triangles side by side.
 const SIX_TRIANGLES: [Edge; 18] = [
