@@ -23,7 +23,8 @@ use Rattle.file_laws.specs.Lawful.{is_whole}
 use Rattle.file_laws.specs.MapOfFile.{edge_row, face_at, face_at_place, forward_position, joined_count, node_at, place_of_face, signed_at}
 use Rattle.navigate.specs.Bound.{line_digits}
 use Rattle.navigate.proofs.Facts.{w, place_next}
-use Rattle.table_dump.specs.Places.{enclosing_face, face_with_zero, id_at_rank, members_at_rank, row_at_rank}
+use Rattle.table_dump.specs.Places.{enclosing_face, face_with_zero, members_at_rank, row_at_rank}
+use Rattle.table_dump.specs.ByRank.{id_at_rank}
 
 -- the forward position of an edge, from the first one and the edge's bit
 pub forward_first : (c : Contents) (k : Code) (e first : ℕ) (b : Bool) → k ≡ c.code → Some first ≡ first_of_edge k e → b ≡ slice_index_or c.forward e false → b ≡ true → first ≡ forward_position c e

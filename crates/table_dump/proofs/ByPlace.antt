@@ -29,7 +29,8 @@ use Rattle.file_laws.proofs.Regions.{one_row, flat_find, faces_apart}
 use Rattle.file_laws.proofs.Rotation.{face_ids}
 use Rattle.file_laws.proofs.Whole.{WholeParts}
 use Rattle.navigate.specs.Bound.{map_with}
-use Rattle.table_dump.specs.Places.{id_at_rank, members_at_rank}
+use Rattle.table_dump.specs.Places.{members_at_rank}
+use Rattle.table_dump.specs.ByRank.{id_at_rank}
 use Rattle.table_dump.specs.Lines.{header_line, line_at, lines_from, member_text, row_count}
 
 rise_again : (ids : List ℕ) → is_distinct ids ≡ true → rising (rising ids) ≡ rising ids

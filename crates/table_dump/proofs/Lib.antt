@@ -4,3 +4,8 @@ pub mod Chained
 pub mod Sums
 pub mod AtRanks
 pub mod Fields
+pub mod Positions
+pub mod Filling
+pub mod Ranked
+pub mod Sweeping
+pub mod RingPlaces

@@ -12,8 +12,8 @@ use Rattle.navigate.proofs.OrbitLengths.{some_digits}
 use Rattle.table_dump.specs.Prices.{most_dump_words}
 
 -- what the five tables cost together
-pub all_rows : (c : Contents) → is_whole c ≡ true → (start nodes edges faces regions members : ℕ) → nodes ≤ start + length c.nodes * (10 * line_digits c + 62) → edges ≤ nodes + length c.edges * (95 * line_digits c + 827)
-    → faces ≤ edges + length c.faces * (7 * line_digits c + 40) → regions ≤ faces + length c.regions * (17 * line_digits c + 121) → members ≤ regions + (length c.faces + 1) * (10 * line_digits c + 62)
+pub all_rows : (c : Contents) → is_whole c ≡ true → (start nodes edges faces regions members : ℕ) → nodes ≤ start + length c.nodes * (2 + (6 * line_digits c + 40)) → edges ≤ nodes + length c.edges * (18 * line_digits c + 134 + (3 * line_digits c + 18))
+    → faces ≤ edges + length c.faces * (0 + (3 * line_digits c + 18)) → regions ≤ faces + length c.regions * (0 + (17 * line_digits c + 121)) → members ≤ regions + (length c.faces + 1) * (2 + (6 * line_digits c + 42))
     → members ≤ start + most_dump_words (map_with c)
 all_rows c h start nodes edges faces regions members a b f r m =
     let d = line_digits c in
@@ -48,12 +48,12 @@ pub rows_paid : (place n price start last : ℕ) → place ≤ n → last ≤ st
 rows_paid place n price start last l a = let k : price * place ≤ price * n = mul-le-mul_left price l in omega (arith, k, a)
 
 -- the first of them alone
-pub one_table : (c : Contents) → is_whole c ≡ true → (start last : ℕ) → last ≤ start + length c.nodes * (10 * line_digits c + 62) → last ≤ start + most_dump_words (map_with c)
+pub one_table : (c : Contents) → is_whole c ≡ true → (start last : ℕ) → last ≤ start + length c.nodes * (2 + (6 * line_digits c + 40)) → last ≤ start + most_dump_words (map_with c)
 one_table c h start last a = all_rows c h start last last last last last a (omega arith) (omega arith) (omega arith) (omega arith)
 
-pub two_tables : (c : Contents) → is_whole c ≡ true → (start nodes last : ℕ) → nodes ≤ start + length c.nodes * (10 * line_digits c + 62) → last ≤ nodes + length c.edges * (95 * line_digits c + 827) → last ≤ start + most_dump_words (map_with c)
+pub two_tables : (c : Contents) → is_whole c ≡ true → (start nodes last : ℕ) → nodes ≤ start + length c.nodes * (2 + (6 * line_digits c + 40)) → last ≤ nodes + length c.edges * (18 * line_digits c + 134 + (3 * line_digits c + 18)) → last ≤ start + most_dump_words (map_with c)
 two_tables c h start nodes last a b = all_rows c h start nodes last last last last a b (omega arith) (omega arith) (omega arith)
 
-pub three_tables : (c : Contents) → is_whole c ≡ true → (start nodes edges last : ℕ) → nodes ≤ start + length c.nodes * (10 * line_digits c + 62) → edges ≤ nodes + length c.edges * (95 * line_digits c + 827)
-    → last ≤ edges + length c.faces * (7 * line_digits c + 40) → last ≤ start + most_dump_words (map_with c)
+pub three_tables : (c : Contents) → is_whole c ≡ true → (start nodes edges last : ℕ) → nodes ≤ start + length c.nodes * (2 + (6 * line_digits c + 40)) → edges ≤ nodes + length c.edges * (18 * line_digits c + 134 + (3 * line_digits c + 18))
+    → last ≤ edges + length c.faces * (0 + (3 * line_digits c + 18)) → last ≤ start + most_dump_words (map_with c)
 three_tables c h start nodes edges last a b f = all_rows c h start nodes edges last last last a b f (omega arith) (omega arith)

@@ -1,5 +1,11 @@
+pub mod ByRank
 pub mod Places
 pub mod Lines
 pub mod Prices
 pub mod Gathering
 pub mod Dumped
+pub mod Ends
+pub mod AtEnds
+pub mod Ahead
+pub mod Filled
+pub mod Sweep

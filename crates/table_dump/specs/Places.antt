@@ -9,10 +9,7 @@ use Rattle.plane_model.specs.Sets.{rising}
 use Rattle.id_names.specs.Names.{number_of}
 use Rattle.file_laws.specs.Contents.{Contents}
 use Rattle.file_laws.specs.MapOfFile.{node_row, edge_row, region_row, member_row, place_of_face}
-
--- the id at a place of the ids in rising order
-abbrev pub id_at_rank : List ℕ → ℕ → ℕ
-id_at_rank ids place = slice_index (rising ids) place
+use Rattle.table_dump.specs.ByRank.{id_at_rank}
 
 -- the row of the id at a place, from the id and its number
 abbrev pub row_at_rank : {R : Type 0} → List ℕ → (ℕ → ℕ → R) → ℕ → R

@@ -8,13 +8,23 @@ use Rattle.plane_model.specs.Consistent.{size}
 use Rattle.file_laws.specs.Contents.{Contents}
 use Rattle.navigate.specs.Bound.{line_digits}
 
--- what the row at a place costs
+-- what is read ahead for a row, and what its line costs then
+abbrev pub ahead_price : Contents → Table → ℕ
+ahead_price c table.Node = 2
+ahead_price c table.Edge = 18 * line_digits c + 134
+ahead_price c table.Face = 0
+ahead_price c table.Region = 0
+ahead_price c table.Member = 2
+
+abbrev pub line_price : Contents → Table → ℕ
+line_price c table.Node = 6 * line_digits c + 40
+line_price c table.Edge = 3 * line_digits c + 18
+line_price c table.Face = 3 * line_digits c + 18
+line_price c table.Region = 17 * line_digits c + 121
+line_price c table.Member = 6 * line_digits c + 42
+
 abbrev pub row_price : Contents → Table → ℕ
-row_price c table.Node = 10 * line_digits c + 62
-row_price c table.Edge = 95 * line_digits c + 827
-row_price c table.Face = 7 * line_digits c + 40
-row_price c table.Region = 17 * line_digits c + 121
-row_price c table.Member = 10 * line_digits c + 62
+row_price c t = ahead_price c t + line_price c t
 
 -- what all tables of a map cost
 abbrev pub most_dump_words : PlaneMap → ℕ

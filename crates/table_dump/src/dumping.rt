@@ -2,7 +2,9 @@
 
 ghost use Rattle.std.specs.Prelude.{◌≡◌, ◌≤◌, ◌+◌, length, OnErr, OnOk};
 ghost use Rattle.ports.specs.Outside.{CountsWrite, WhereTold};
+ghost use Rattle.pemb_file.specs.Served.{contents_of_view};
 ghost use Rattle.navigate.specs.Bound.{served_map};
+ghost use Rattle.table_dump.specs.Ahead.{words_to_dump};
 ghost use Rattle.table_dump.specs.Dumped.{AreApart, AreWritten, AreWrittenInPart, dumped_files, names_in};
 ghost use Rattle.table_dump.specs.Prices.{most_dump_words};
 
@@ -20,10 +22,13 @@ use topo_base::Table;
 fn write_tables<H: Shelf, C: Ledger>(
     served: Served<'_>,
     names: DumpNames<'_>,
+    words: &mut [u64],
     shelf: &mut H,
     steps: &mut Steps<C>,
 ) -> Result<(), Failed>
-    requires { AreApart (names_in names) }
+    requires apart { AreApart (names_in names) }
+    requires room { words_to_dump (contents_of_view served) ≤ length words.old }
+    requires few { length words.old ≤ 2147483647 }
     ensures written { OnOk result (WhereTold (AreWritten (dumped_files names.entry (served_map served.entry)))
         (H.files shelf.old) (H.files shelf.new)) }
     ensures part { OnErr result (WhereTold (AreWrittenInPart (dumped_files names.entry (served_map served.entry)))
@@ -36,24 +41,67 @@ fn write_tables<H: Shelf, C: Ledger>(
     ensures paid { steps.new ≤ steps.old + most_dump_words (served_map served.entry) }
 {
     let mut text = Gathered::new();
-    write_table(served, Table::Node, names.node, shelf, &mut text, steps)?;
-    write_table(served, Table::Edge, names.edge, shelf, &mut text, steps)?;
-    write_table(served, Table::Face, names.face, shelf, &mut text, steps)?;
-    write_table(served, Table::Region, names.region, shelf, &mut text, steps)?;
-    write_table(served, Table::Member, names.member, shelf, &mut text, steps)
+    write_table(
+        served,
+        Table::Node,
+        names.node,
+        words,
+        shelf,
+        &mut text,
+        steps,
+    )?;
+    write_table(
+        served,
+        Table::Edge,
+        names.edge,
+        words,
+        shelf,
+        &mut text,
+        steps,
+    )?;
+    write_table(
+        served,
+        Table::Face,
+        names.face,
+        words,
+        shelf,
+        &mut text,
+        steps,
+    )?;
+    write_table(
+        served,
+        Table::Region,
+        names.region,
+        words,
+        shelf,
+        &mut text,
+        steps,
+    )?;
+    write_table(
+        served,
+        Table::Member,
+        names.member,
+        words,
+        shelf,
+        &mut text,
+        steps,
+    )
 }
 
 /// Writes the tables of an opened file's map under five names that differ, rows rising by id and members by face, each
 /// in place of what its name held. After a fault the tables before one of them are written, in the order of the names,
 /// and of that one nothing or a part: its name holds what it held, or nothing, or a front of its text. All other names
-/// stay as they are.
+/// stay as they are. The lent words are for what is read ahead, table by table.
 pub fn dump<H: Shelf, C: Ledger>(
     served: Served<'_>,
     names: DumpNames<'_>,
+    words: &mut [u64],
     shelf: &mut H,
     steps: &mut Steps<C>,
 ) -> Result<(), DumpFault>
-    requires { AreApart (names_in names) }
+    requires apart { AreApart (names_in names) }
+    requires room { words_to_dump (contents_of_view served) ≤ length words.old }
+    requires few { length words.old ≤ 2147483647 }
     ensures written { OnOk result (WhereTold (AreWritten (dumped_files names.entry (served_map served.entry)))
         (H.files shelf.old) (H.files shelf.new)) }
     ensures part { OnErr result (WhereTold (AreWrittenInPart (dumped_files names.entry (served_map served.entry)))
@@ -65,7 +113,7 @@ pub fn dump<H: Shelf, C: Ledger>(
     ensures grows { steps.old ≤ steps.new }
     ensures paid { steps.new ≤ steps.old + most_dump_words (served_map served.entry) }
 {
-    match write_tables(served, names, shelf, steps) {
+    match write_tables(served, names, words, shelf, steps) {
         Ok(()) => Ok(()),
         Err(Failed) => Err(DumpFault::WriteFault),
     }

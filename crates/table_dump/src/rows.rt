@@ -1,17 +1,22 @@
 //! The rows of an opened file by their places in the order of ids.
 
 ghost use Rattle.std.specs.Prelude.{◌≡◌, ◌<◌, ◌≤◌, ◌+◌, ◌*◌, length, option_map, option_to_list, slice_index};
+ghost use Rattle.scratch_region.specs.Numbers.{numbers_of};
 ghost use Rattle.region_tree.specs.Nesting.{parent_number};
 ghost use Rattle.file_laws.specs.MapOfFile.{face_at_place, place_of_face};
 ghost use Rattle.pemb_file.specs.Served.{contents_of_view};
 ghost use Rattle.navigate.specs.Bound.{line_digits};
 ghost use Rattle.table_dump.specs.Places.{edge_at_rank, enclosing_face, face_with_zero, face_at_rank, members_at_rank, node_at_rank, region_at_rank};
+ghost use Rattle.table_dump.specs.ByRank.{AreByRank};
+ghost use Rattle.table_dump.specs.AtEnds.{AreEnds};
 
-use crate::positions::{face_beside, forward_position, next_edge, node_left};
+use crate::ends;
+use crate::ends::end_at;
 use bit_words::Steps;
 use navigate::face_in;
 use pemb_file::Served;
 use plane_model::{EdgeRow, FaceRow, MemberRow, NodeRow, RegionRow};
+use scratch_region::Numbers;
 use std::sync::ledger::Ledger;
 use topo_base::IdNumber;
 
@@ -35,40 +40,49 @@ fn enclosing_face<C: Ledger>(
     Some(face_in(served, place, steps).0)
 }
 
-/// The row of the node at a place.
-pub(crate) fn node_row<C: Ledger>(served: Served<'_>, place: usize, steps: &mut Steps<C>) -> NodeRow
-    requires { place < length (contents_of_view served).nodes }
+/// The row of the node at a place, over the numbers of nodes by place.
+pub(crate) fn node_row<C: Ledger>(
+    served: Served<'_>,
+    numbers: &Numbers<'_>,
+    place: usize,
+    steps: &mut Steps<C>,
+) -> NodeRow
+    requires within { place < length (contents_of_view served).nodes }
+    requires numbers { AreByRank (contents_of_view served).nodes (numbers_of numbers.now) }
     ensures row { result ≡ node_at_rank (contents_of_view served.entry) place }
     ensures some_steps { steps.old + 1 ≤ steps.new }
-    ensures cost { steps.new ≤ steps.old + (10 * line_digits (contents_of_view served.entry) + 62) }
+    ensures cost { steps.new ≤ steps.old + (6 * line_digits (contents_of_view served.entry) + 40) }
 {
-    let nodes = served.nodes();
-    let number = nodes.number_at(place, steps);
+    let number = numbers.get(place) as usize;
     NodeRow {
-        id: nodes.id_of(number, steps),
+        id: served.nodes().id_at(place, steps),
         face: enclosing_face(served, number, steps),
     }
 }
 
-/// The row of the edge at a place.
-pub(crate) fn edge_row<C: Ledger>(served: Served<'_>, place: usize, steps: &mut Steps<C>) -> EdgeRow
-    requires { place < length (contents_of_view served).edges }
+/// The row of the edge at a place, over the ends of edges.
+pub(crate) fn edge_row<C: Ledger>(
+    served: Served<'_>,
+    ends: &Numbers<'_>,
+    place: usize,
+    steps: &mut Steps<C>,
+) -> EdgeRow
+    requires within { place < length (contents_of_view served).edges }
+    requires ends { AreEnds (contents_of_view served) (numbers_of ends.now) }
     ensures row { result ≡ edge_at_rank (contents_of_view served.entry) place }
     ensures some_steps { steps.old + 1 ≤ steps.new }
-    ensures cost { steps.new ≤ steps.old + (95 * line_digits (contents_of_view served.entry) + 827) }
+    ensures cost { steps.new ≤ steps.old + (3 * line_digits (contents_of_view served.entry) + 18) }
 {
-    let edges = served.edges();
-    let number = edges.number_at(place, steps);
-    let forward = forward_position(served, number, steps);
-    let backward = served.code().mate(forward, steps);
+    let forward = end_at(place, true);
+    let backward = end_at(place, false);
     EdgeRow {
-        id: edges.id_of(number, steps),
-        start: node_left(served, forward, steps),
-        end: node_left(served, backward, steps),
-        next_left: next_edge(served, forward, steps),
-        next_right: next_edge(served, backward, steps),
-        left_face: face_beside(served, forward, steps),
-        right_face: face_beside(served, backward, steps),
+        id: served.edges().id_at(place, steps),
+        start: ends::node_in(ends, forward),
+        end: ends::node_in(ends, backward),
+        next_left: ends::next_in(ends, forward),
+        next_right: ends::next_in(ends, backward),
+        left_face: ends::face_in(ends, forward),
+        right_face: ends::face_in(ends, backward),
     }
 }
 
@@ -77,12 +91,10 @@ pub(crate) fn face_row<C: Ledger>(served: Served<'_>, place: usize, steps: &mut 
     requires { place < length (contents_of_view served).faces }
     ensures row { result ≡ face_at_rank (contents_of_view served.entry) place }
     ensures some_steps { steps.old + 1 ≤ steps.new }
-    ensures cost { steps.new ≤ steps.old + (7 * line_digits (contents_of_view served.entry) + 40) }
+    ensures cost { steps.new ≤ steps.old + (3 * line_digits (contents_of_view served.entry) + 18) }
 {
-    let faces = served.faces();
-    let number = faces.number_at(place, steps);
     FaceRow {
-        id: faces.id_of(number, steps),
+        id: served.faces().id_at(place, steps),
     }
 }
 
@@ -121,34 +133,37 @@ pub(crate) fn region_row<C: Ledger>(
 }
 
 /// Where the face at a place stands by number, face 0 before all others: 0 for face 0, and else 1 + the number.
-fn face_place<C: Ledger>(served: Served<'_>, place: usize, steps: &mut Steps<C>) -> usize
-    requires { place ≤ length (contents_of_view served).faces }
+fn face_place(served: Served<'_>, numbers: &Numbers<'_>, place: usize) -> usize
+    requires within { place ≤ length (contents_of_view served).faces }
+    requires numbers { AreByRank (contents_of_view served).faces (numbers_of numbers.now) }
     ensures place { result ≡ place_of_face (contents_of_view served.entry)
         (face_with_zero (contents_of_view served.entry) place) }
     ensures face { face_at_place (contents_of_view served.entry) result
         ≡ face_with_zero (contents_of_view served.entry) place }
     ensures within { result ≤ length (contents_of_view served.entry).faces }
-    ensures grows { steps.old ≤ steps.new }
-    ensures cost { steps.new ≤ steps.old + (4 * line_digits (contents_of_view served.entry) + 20) }
 {
+    let _served = served;
     if place == 0 {
         return 0;
     }
-    served.faces().number_at(place - 1, steps) + 1
+    numbers.get(place - 1) as usize + 1
 }
 
-/// The row that puts the face at a place into a region, face 0 before all others. None where it is in none.
+/// The row that puts the face at a place into a region, face 0 before all others, over the numbers of faces by place.
+/// None where it is in none.
 pub(crate) fn member_row<C: Ledger>(
     served: Served<'_>,
+    numbers: &Numbers<'_>,
     place: usize,
     steps: &mut Steps<C>,
 ) -> Option<MemberRow>
-    requires { place ≤ length (contents_of_view served).faces }
+    requires within { place ≤ length (contents_of_view served).faces }
+    requires numbers { AreByRank (contents_of_view served).faces (numbers_of numbers.now) }
     ensures rows { option_to_list result ≡ members_at_rank (contents_of_view served.entry) place }
     ensures some_steps { steps.old + 1 ≤ steps.new }
-    ensures cost { steps.new ≤ steps.old + (10 * line_digits (contents_of_view served.entry) + 62) }
+    ensures cost { steps.new ≤ steps.old + (6 * line_digits (contents_of_view served.entry) + 42) }
 {
-    let face_place = face_place(served, place, steps);
+    let face_place = face_place(served, numbers, place);
     let regions = served.regions();
     match regions.of_face(face_place, steps) {
         Some(region) => Some(MemberRow {

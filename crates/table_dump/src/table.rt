@@ -1,19 +1,23 @@
 //! One table, written under its name.
 
 ghost use Rattle.std.specs.Prelude.{◌≡◌, ◌<◌, ◌≤◌, ◌+◌, ◌*◌, [], length, OnErr, OnOk};
+ghost use Rattle.scratch_region.specs.Numbers.{numbers_of};
 ghost use Rattle.ports.specs.Outside.{CountsWrite, WhereTold, Holds, HoldsFront};
 ghost use Rattle.plane_model.specs.Texts.{table_text};
 ghost use Rattle.pemb_file.specs.Served.{contents_of_view};
 ghost use Rattle.navigate.specs.Bound.{served_map};
 ghost use Rattle.table_dump.specs.Lines.{header_line, line_at, row_count};
-ghost use Rattle.table_dump.specs.Prices.{row_price};
+ghost use Rattle.table_dump.specs.Ahead.{IsAhead, words_to_dump};
+ghost use Rattle.table_dump.specs.Prices.{line_price, row_price};
 
+use crate::ahead::read_ahead;
 use crate::gathered::{Gathered, gather, put_out};
 use crate::line::{Line, edge_line, face_line, member_line, node_line, region_line};
 use crate::rows::{edge_row, face_row, member_row, node_row, region_row};
 use bit_words::Steps;
 use pemb_file::Served;
 use ports::{Failed, Shelf};
+use scratch_region::{Numbers, Region};
 use std::sync::ledger::Ledger;
 use topo_base::Table;
 
@@ -47,35 +51,82 @@ fn places(served: Served<'_>, table: Table) -> usize
     }
 }
 
-/// The line at a place of a table, or nothing where a face is in no region.
-fn line_in<C: Ledger>(served: Served<'_>, table: Table, place: usize, steps: &mut Steps<C>) -> Line
-    requires { place < row_count (contents_of_view served) table }
+/// The line at a place of a table, or nothing where a face is in no region, over what was read ahead for the table.
+fn line_in<C: Ledger>(
+    served: Served<'_>,
+    table: Table,
+    ahead: &Numbers<'_>,
+    place: usize,
+    steps: &mut Steps<C>,
+) -> Line
+    requires within { place < row_count (contents_of_view served) table }
+    requires ahead { IsAhead (contents_of_view served) table (numbers_of ahead.now) }
     ensures line { result.items ≡ line_at (contents_of_view served.entry) table place }
     ensures some_steps { steps.old + 1 ≤ steps.new }
-    ensures cost { steps.new ≤ steps.old + row_price (contents_of_view served.entry) table }
+    ensures cost { steps.new ≤ steps.old + line_price (contents_of_view served.entry) table }
 {
     match table {
-        Table::Node => node_line(node_row(served, place, steps)),
-        Table::Edge => edge_line(edge_row(served, place, steps)),
+        Table::Node => node_line(node_row(served, ahead, place, steps)),
+        Table::Edge => edge_line(edge_row(served, ahead, place, steps)),
         Table::Face => face_line(face_row(served, place, steps)),
         Table::Region => region_line(region_row(served, place, steps)),
-        Table::Member => match member_row(served, place, steps) {
+        Table::Member => match member_row(served, ahead, place, steps) {
             Some(row) => member_line(row),
             None => Line::new(),
         },
     }
 }
 
-/// Writes a table under a name. Nothing may be gathered before, and nothing is left gathered where all is written.
-pub(crate) fn write_table<H: Shelf, C: Ledger>(
+/// Writes a table under a name, over what was read ahead for it. Nothing may be gathered before, and nothing is left
+/// gathered where all is written.
+fn write_lines<H: Shelf, C: Ledger>(
     served: Served<'_>,
     table: Table,
+    ahead: &Numbers<'_>,
     name: &str,
     shelf: &mut H,
     text: &mut Gathered,
     steps: &mut Steps<C>,
 ) -> Result<(), Failed>
-    requires { text.old.items ≡ [] }
+    requires empty { text.old.items ≡ [] }
+    requires ahead { IsAhead (contents_of_view served) table (numbers_of ahead.now) }
+    ensures written { OnOk result (WhereTold (Holds name.now (table_text (served_map served.entry) table))
+        (H.files shelf.old) (H.files shelf.new)) }
+    ensures part { OnErr result (WhereTold (HoldsFront name.now (table_text (served_map served.entry) table))
+        (H.files shelf.old) (H.files shelf.new)) }
+    ensures counted { CountsWrite result (H.write_faults shelf.old) (H.write_faults shelf.new) }
+    ensures empty { OnOk result (text.new.items ≡ []) }
+    ensures no_fault { H.faults shelf.new ≡ H.faults shelf.old }
+    ensures no_miss { H.misses shelf.new ≡ H.misses shelf.old }
+    ensures least { OnOk result (steps.old + row_count (contents_of_view served.entry) table ≤ steps.new) }
+    ensures grows { steps.old ≤ steps.new }
+    ensures paid { steps.new ≤ steps.old + row_count (contents_of_view served.entry) table
+        * line_price (contents_of_view served.entry) table }
+{
+    shelf.start(name)?;
+    gather(shelf, name, text, header(table))?;
+    let count = places(served, table);
+    for place in 0..count {
+        let line = line_in(served, table, ahead, place, steps);
+        gather(shelf, name, text, line.as_slice())?;
+    }
+    put_out(shelf, name, text)
+}
+
+/// Writes a table under a name, over lent words. Nothing may be gathered before, and nothing is left gathered where all
+/// is written.
+pub(crate) fn write_table<H: Shelf, C: Ledger>(
+    served: Served<'_>,
+    table: Table,
+    name: &str,
+    words: &mut [u64],
+    shelf: &mut H,
+    text: &mut Gathered,
+    steps: &mut Steps<C>,
+) -> Result<(), Failed>
+    requires empty { text.old.items ≡ [] }
+    requires room { words_to_dump (contents_of_view served) ≤ length words.old }
+    requires few { length words.old ≤ 2147483647 }
     ensures written { OnOk result (WhereTold (Holds name.now (table_text (served_map served.entry) table))
         (H.files shelf.old) (H.files shelf.new)) }
     ensures part { OnErr result (WhereTold (HoldsFront name.now (table_text (served_map served.entry) table))
@@ -89,12 +140,6 @@ pub(crate) fn write_table<H: Shelf, C: Ledger>(
     ensures paid { steps.new ≤ steps.old + row_count (contents_of_view served.entry) table
         * row_price (contents_of_view served.entry) table }
 {
-    shelf.start(name)?;
-    gather(shelf, name, text, header(table))?;
-    let count = places(served, table);
-    for place in 0..count {
-        let line = line_in(served, table, place, steps);
-        gather(shelf, name, text, line.as_slice())?;
-    }
-    put_out(shelf, name, text)
+    let ahead = read_ahead(served, table, Region::new(words), steps);
+    write_lines(served, table, &ahead, name, shelf, text, steps)
 }

@@ -2,7 +2,9 @@
 
 ghost use Rattle.std.specs.Prelude.{◌≡◌, ◌≤◌, ◌+◌, IfOk, OnErr, OnOk, length, string_bytes};
 ghost use Rattle.ports.specs.Outside.{Rose, WhereTold};
+ghost use Rattle.pemb_file.specs.Served.{contents_of_view};
 ghost use Rattle.navigate.specs.Bound.{served_map};
+ghost use Rattle.table_dump.specs.Ahead.{words_to_dump};
 ghost use Rattle.table_dump.specs.Dumped.{AreWritten, AreWrittenInPart};
 ghost use Rattle.table_dump.specs.Prices.{most_dump_words};
 ghost use Rattle.topo_cli.specs.Dumping.{AreTableNames};
@@ -13,7 +15,7 @@ use pemb_file::Served;
 use ports::{Failed, Shelf};
 use std::alloc::{AllocError, Global};
 use std::sync::ledger::Ledger;
-use table_dump::{DumpFault, DumpNames, dump};
+use table_dump::{DumpFault, DumpNames, dump, words_to_dump};
 
 /// The names of a folder's tables.
 #[derive(Drop)]
@@ -43,15 +45,26 @@ pub fn table_names(alloc: Global, dir: &str) -> Result<TableNames, AllocError>
     })
 }
 
-/// Writes the tables of an opened file's map to a folder, one after the other. No memory is taken.
+/// The words that a dump is lent.
+pub fn words_for_dump(alloc: Global, served: Served<'_>) -> Result<Vec<u64>, AllocError>
+    ensures room { IfOk result (λ words. words_to_dump (contents_of_view served.entry) ≤ length words.items) }
+    ensures few { IfOk result (λ words. length words.items ≤ 2147483647) }
+{
+    vec![in alloc; 0; words_to_dump(served)]
+}
+
+/// Writes the tables of an opened file's map to a folder, one after the other, over lent words. No memory is taken.
 pub fn write_tables<H: Shelf, L: Ledger>(
     served: Served<'_>,
     dir: &str,
     names: &TableNames,
+    words: &mut [u64],
     shelf: &mut H,
     steps: &mut Steps<L>,
 ) -> Result<(), Failed>
-    requires { AreTableNames dir.now names.now }
+    requires names { AreTableNames dir.now names.now }
+    requires room { words_to_dump (contents_of_view served) ≤ length words.old }
+    requires few { length words.old ≤ 2147483647 }
     ensures written { OnOk result (WhereTold (AreWritten (folder_of dir.now (served_map served.entry)))
         (H.files shelf.old) (H.files shelf.new)) }
     ensures part { OnErr result (WhereTold (AreWrittenInPart (folder_of dir.now (served_map served.entry)))
@@ -74,7 +87,7 @@ pub fn write_tables<H: Shelf, L: Ledger>(
         region,
         member,
     };
-    match dump(served, names, shelf, steps) {
+    match dump(served, names, words, shelf, steps) {
         Ok(()) => Ok(()),
         Err(DumpFault::WriteFault) => Err(Failed),
     }

@@ -8,7 +8,7 @@ ghost use Rattle.topo_cli.specs.Words.{Form, form};
 
 use crate::command::{Command, command_of};
 use crate::counting::line_of_counts;
-use crate::dumping::{table_names, write_tables};
+use crate::dumping::{table_names, words_for_dump, write_tables};
 use crate::files::write_file;
 use crate::hopping::hops_line;
 use crate::image::open_image;
@@ -281,7 +281,11 @@ fn dump<H: Shelf, K: Sink, L: Ledger>(
         Ok(names) => names,
         Err(_) => return Status::Memory,
     };
-    match write_tables(served, dir, &names, shelf, steps) {
+    let mut words = match words_for_dump(alloc, served) {
+        Ok(words) => words,
+        Err(_) => return Status::Memory,
+    };
+    match write_tables(served, dir, &names, &mut words, shelf, steps) {
         Ok(()) => tell(out, &line, Status::Done),
         Err(Failed) => Status::WriteFault,
     }

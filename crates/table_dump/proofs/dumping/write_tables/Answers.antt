@@ -32,7 +32,7 @@ pub returns-in_err-write_table-clause-part : goal.returns-in_err-write_table-cla
 returns-in_err-write_table-clause-part g c =
     let n = c.args.names in
     let m = served_map c.args.served in
-    let apart = five_apart _ _ _ _ _ c.requires in
+    let apart = five_apart _ _ _ _ _ c.requires.apart in
     on_failure _ _ c.from_residual.ensures.1 (written_front [] (node_file n m) (edge_file n m ∷ face_file n m ∷ region_file n m ∷ member_file n m ∷ []) (dumped_files n m) _ _ _ tt refl (written_none _) c.in_err-write_table.ensures.part)
 
 pub returns-in_err-write_table-clause-counted : goal.returns-in_err-write_table-clause-counted
@@ -46,7 +46,7 @@ pub returns-in_err-write_table-2-clause-part : goal.returns-in_err-write_table-2
 returns-in_err-write_table-2-clause-part g c =
     let n = c.args.names in
     let m = served_map c.args.served in
-    let apart = five_apart _ _ _ _ _ c.requires in
+    let apart = five_apart _ _ _ _ _ c.requires.apart in
     let w1 = written_more [] (node_file n m) _ _ _ tt (written_none _) c.in_ok-write_table.ensures.written in
     on_failure _ _ c.from_residual-in_err-write_table-2.ensures.1 (written_front (node_file n m ∷ []) (edge_file n m) (face_file n m ∷ region_file n m ∷ member_file n m ∷ []) (dumped_files n m) _ _ _ apart.second refl w1 c.in_err-write_table-2.ensures.part)
 
@@ -62,7 +62,7 @@ pub returns-in_err-write_table-3-clause-part : goal.returns-in_err-write_table-3
 returns-in_err-write_table-3-clause-part g c =
     let n = c.args.names in
     let m = served_map c.args.served in
-    let apart = five_apart _ _ _ _ _ c.requires in
+    let apart = five_apart _ _ _ _ _ c.requires.apart in
     let w1 = written_more [] (node_file n m) _ _ _ tt (written_none _) c.in_ok-write_table.ensures.written in
     let w2 = written_more (node_file n m ∷ []) (edge_file n m) _ _ _ apart.second w1 c.in_ok-write_table-2.ensures.written in
     on_failure _ _ c.from_residual-in_err-write_table-3.ensures.1 (written_front (node_file n m ∷ edge_file n m ∷ []) (face_file n m) (region_file n m ∷ member_file n m ∷ []) (dumped_files n m) _ _ _ apart.third refl w2 c.in_err-write_table-3.ensures.part)
@@ -80,7 +80,7 @@ pub returns-in_err-write_table-4-clause-part : goal.returns-in_err-write_table-4
 returns-in_err-write_table-4-clause-part g c =
     let n = c.args.names in
     let m = served_map c.args.served in
-    let apart = five_apart _ _ _ _ _ c.requires in
+    let apart = five_apart _ _ _ _ _ c.requires.apart in
     let w1 = written_more [] (node_file n m) _ _ _ tt (written_none _) c.in_ok-write_table.ensures.written in
     let w2 = written_more (node_file n m ∷ []) (edge_file n m) _ _ _ apart.second w1 c.in_ok-write_table-2.ensures.written in
     let w3 = written_more (node_file n m ∷ edge_file n m ∷ []) (face_file n m) _ _ _ apart.third w2 c.in_ok-write_table-3.ensures.written in
@@ -100,7 +100,7 @@ pub returns-clause-written : goal.returns-clause-written
 returns-clause-written g c =
     let n = c.args.names in
     let m = served_map c.args.served in
-    let apart = five_apart _ _ _ _ _ c.requires in
+    let apart = five_apart _ _ _ _ _ c.requires.apart in
     let w1 = written_more [] (node_file n m) _ _ _ tt (written_none _) c.in_ok-write_table.ensures.written in
     let w2 = written_more (node_file n m ∷ []) (edge_file n m) _ _ _ apart.second w1 c.in_ok-write_table-2.ensures.written in
     let w3 = written_more (node_file n m ∷ edge_file n m ∷ []) (face_file n m) _ _ _ apart.third w2 c.in_ok-write_table-3.ensures.written in
@@ -111,7 +111,7 @@ pub returns-clause-part : goal.returns-clause-part
 returns-clause-part g c =
     let n = c.args.names in
     let m = served_map c.args.served in
-    let apart = five_apart _ _ _ _ _ c.requires in
+    let apart = five_apart _ _ _ _ _ c.requires.apart in
     let w1 = written_more [] (node_file n m) _ _ _ tt (written_none _) c.in_ok-write_table.ensures.written in
     let w2 = written_more (node_file n m ∷ []) (edge_file n m) _ _ _ apart.second w1 c.in_ok-write_table-2.ensures.written in
     let w3 = written_more (node_file n m ∷ edge_file n m ∷ []) (face_file n m) _ _ _ apart.third w2 c.in_ok-write_table-3.ensures.written in

@@ -29,4 +29,4 @@ returns-in-None-clause-rows g c =
 pub returns-in-Some-clause-cost : goal.returns-in-Some-clause-cost
 returns-in-Some-clause-cost g c =
     let ids = digits_regions (contents_of_view c.args.served) _ (ap (λ (r : Regions). length r.ids) c.regions-regions.ensures) in
-    omega (arith, ids, c.face_place-face_place.ensures.cost, c.in-Some.ensures.cost, c.id_of.ensures.cost, c.face_in.ensures.cost)
+    omega (arith, ids, c.in-Some.ensures.cost, c.id_of.ensures.cost, c.face_in.ensures.cost)

@@ -5,7 +5,7 @@ use Rattle.region_tree.specs.RegionView.{Regions}
 use Rattle.file_laws.specs.MapOfFile.{region_row}
 use Rattle.pemb_file.specs.Served.{contents_of_view}
 use Rattle.navigate.proofs.Facts.{w}
-use Rattle.table_dump.specs.Places.{id_at_rank}
+use Rattle.table_dump.specs.ByRank.{id_at_rank}
 use Rattle.table_dump.proofs.AtRanks.{digits_regions, row_there}
 use Rattle.table_dump.proofs.rows.region_row.Goals as goal
 

@@ -1,0 +1,4 @@
+pub mod OpenPairs
+pub mod Gap
+pub mod Passed
+pub mod Tour

@@ -1,0 +1,170 @@
+//! The ends of all edges, filled by one tour of the code.
+
+ghost use Rattle.std.specs.Prelude.{ℕ, ◌≡◌, ◌<◌, ◌≤◌, ◌+◌, ◌*◌, length, pos, neg_ℤ, IsTrue, if◌then◌else◌};
+ghost use Rattle.topo_base.specs.declared.id.TheConstants.{LARGEST_ID};
+ghost use Rattle.id_names.specs.Names.{is_id};
+ghost use Rattle.scratch_region.specs.Numbers.{numbers_of};
+ghost use Rattle.code_tour.specs.Passed.{IsPassed};
+ghost use Rattle.code_tour.specs.Tour.{code_in, position_of};
+ghost use Rattle.id_names.specs.Views.{ids_of};
+ghost use Rattle.code_laws.specs.Numbers.{ring_of};
+ghost use Rattle.file_laws.specs.MapOfFile.{face_at, place_of_ring};
+ghost use Rattle.pemb_file.specs.Served.{contents_of_view};
+ghost use Rattle.navigate.specs.Bound.{line_digits};
+ghost use Rattle.table_dump.specs.AtEnds.{AreEnds};
+ghost use Rattle.table_dump.specs.Sweep.{AreSwept, IsPut, IsSomewhere};
+
+use crate::ends::{end_at, put_next, put_sides};
+use bit_words::Steps;
+use code_tour::{Passed, Tour};
+use id_names::NamesView;
+use navigate::face_in;
+use pemb_file::Served;
+use scratch_region::Numbers;
+use std::sync::ledger::Ledger;
+use topo_base::{IdNumber, SignedNumber};
+
+/// What a sweep keeps of the positions that it has passed.
+#[derive(Clone, Copy)]
+pub(crate) struct Behind {
+    /// The component of the last position.
+    component: u32,
+    /// The signed edge at the first position of that component.
+    first: SignedNumber,
+    /// The end whose signed edge the one at the next position of the component follows on its ring.
+    end: usize,
+}
+
+/// An edge's id with a direction: below zero backward.
+fn with_direction(id: IdNumber, forward: bool) -> SignedNumber
+    requires { IsTrue (is_id (LARGEST_ID + 1) id) }
+    ensures { result ≡ (if forward then pos id else neg_ℤ (pos id)) }
+{
+    let Ok(number) = SignedNumber::try_from(id) else {
+        unreachable!()
+    };
+    if forward { number } else { -number }
+}
+
+/// The place of the face on the left of a position: 0 for face 0, and else 1 + the number of the face.
+fn place_beside<C: Ledger>(served: Served<'_>, passed: Passed, steps: &mut Steps<C>) -> u32
+    requires { IsSomewhere (contents_of_view served) passed }
+    ensures place { (p : ℕ) → IsPassed (contents_of_view served.entry).code p passed
+        → result ≡ place_of_ring (contents_of_view served.entry) (ring_of (contents_of_view served.entry).code p) }
+    ensures within { result ≤ length (contents_of_view served.entry).faces }
+    ensures grows { steps.old ≤ steps.new }
+    ensures cost { steps.new ≤ steps.old + 2 }
+{
+    if passed.ring == 0 {
+        served.place(passed.component as usize, steps)
+    } else {
+        passed.ring
+    }
+}
+
+/// The id of the face on the left of a position.
+fn face_beside<C: Ledger>(served: Served<'_>, passed: Passed, steps: &mut Steps<C>) -> IdNumber
+    requires { IsSomewhere (contents_of_view served) passed }
+    ensures face { (p : ℕ) → IsPassed (contents_of_view served.entry).code p passed
+        → result ≡ face_at (contents_of_view served.entry) p }
+    ensures grows { steps.old ≤ steps.new }
+    ensures cost { steps.new ≤ steps.old + (3 * line_digits (contents_of_view served.entry) + 22) }
+{
+    let place = place_beside(served, passed, steps);
+    face_in(served, place as usize, steps).0
+}
+
+/// Puts what stands at a position to its end. What a sweep keeps of it, if its component begins with it.
+fn put_position<C: Ledger>(
+    served: Served<'_>,
+    edges: NamesView<'_>,
+    passed: Passed,
+    ends: &mut Numbers<'_>,
+    steps: &mut Steps<C>,
+) -> Behind
+    requires edges { ids_of edges ≡ (contents_of_view served).edges }
+    requires passed { IsSomewhere (contents_of_view served) passed }
+    requires room { length (numbers_of ends.old) ≡ 6 * length (contents_of_view served).edges }
+    ensures put { (p : ℕ) → p < length (contents_of_view served.entry).code.a
+        → IsPassed (contents_of_view served.entry).code p passed
+        → IsPut (contents_of_view served.entry) edges.entry p (numbers_of ends.old) (numbers_of ends.new) result }
+    ensures within { result.end < 2 * length (contents_of_view served.entry).edges }
+    ensures room { length (numbers_of ends.new) ≡ length (numbers_of ends.old) }
+    ensures some_steps { steps.old + 1 ≤ steps.new }
+    ensures cost { steps.new ≤ steps.old + (9 * line_digits (contents_of_view served.entry) + 63) }
+{
+    let edge = passed.edge as usize;
+    let place = edges.rank_of(edge, steps);
+    let forward = passed.first == served.forward(edge, steps);
+    let node = served.nodes().id_of(passed.node as usize, steps);
+    let face = face_beside(served, passed, steps);
+    put_sides(ends, end_at(place, forward), node, face);
+    Behind {
+        component: passed.component,
+        first: with_direction(edges.id_at(place, steps), forward),
+        end: end_at(place, forward == passed.tree),
+    }
+}
+
+/// Puts what stands at a position that others stand before, and that its signed edge follows the one before it.
+fn put_next_position<C: Ledger>(
+    served: Served<'_>,
+    edges: NamesView<'_>,
+    passed: Passed,
+    behind: Behind,
+    ends: &mut Numbers<'_>,
+    steps: &mut Steps<C>,
+) -> Behind
+    requires edges { ids_of edges ≡ (contents_of_view served).edges }
+    requires passed { IsSomewhere (contents_of_view served) passed }
+    requires room { length (numbers_of ends.old) ≡ 6 * length (contents_of_view served).edges }
+    requires within { behind.end < 2 * length (contents_of_view served).edges }
+    ensures swept { (p : ℕ) → p < length (contents_of_view served.entry).code.a
+        → IsPassed (contents_of_view served.entry).code p passed
+        → AreSwept (contents_of_view served.entry) edges.entry p (numbers_of ends.old) behind
+        → AreSwept (contents_of_view served.entry) edges.entry (p + 1) (numbers_of ends.new) result }
+    ensures within { result.end < 2 * length (contents_of_view served.entry).edges }
+    ensures room { length (numbers_of ends.new) ≡ length (numbers_of ends.old) }
+    ensures grows { steps.old ≤ steps.new }
+    ensures cost { steps.new ≤ steps.old + (9 * line_digits (contents_of_view served.entry) + 63) }
+{
+    let _count = edges.count();
+    let here = put_position(served, edges, passed, ends, steps);
+    if here.component == behind.component {
+        put_next(ends, behind.end, here.first);
+        Behind {
+            component: here.component,
+            first: behind.first,
+            end: here.end,
+        }
+    } else {
+        put_next(ends, behind.end, behind.first);
+        here
+    }
+}
+
+/// Fills the ends of all edges by a tour of the code from its first position on.
+pub(crate) fn fill_ends<C: Ledger>(
+    served: Served<'_>,
+    tour: &mut Tour<'_, '_>,
+    ends: &mut Numbers<'_>,
+    steps: &mut Steps<C>,
+)
+    requires code { code_in tour.old ≡ (contents_of_view served).code }
+    requires first { position_of tour.old ≡ 0 }
+    requires room { length (numbers_of ends.old) ≡ 6 * length (contents_of_view served).edges }
+    ensures ends { AreEnds (contents_of_view served.entry) (numbers_of ends.new) }
+    ensures grows { steps.old ≤ steps.new }
+    ensures cost { steps.new ≤ steps.old + length (contents_of_view served.entry).edges
+        * (18 * line_digits (contents_of_view served.entry) + 134) }
+{
+    let edges = served.edges();
+    let Some(first) = tour.pass(steps) else {
+        return;
+    };
+    let mut behind = put_position(served, edges, first, ends, steps);
+    while let Some(passed) = tour.pass(steps) {
+        behind = put_next_position(served, edges, passed, behind, ends, steps);
+    }
+    put_next(ends, behind.end, behind.first);
+}
