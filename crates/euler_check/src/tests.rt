@@ -10,26 +10,9 @@ use std::alloc::{AllocError, Global};
 use std::process::Abort;
 use std::test::Fail;
 use topo_base::{IdNumber, Refusal};
-use worked_maps::{Edge, Node, are_in_range, tables};
+use worked_maps::{Edge, Node, TRIANGLE, tables, within_limits};
 
 const NODES: [Node; 3] = [(1, None), (2, None), (3, None)];
-
-const TRIANGLE: [Edge; 3] = [
-    (1, (1, 2), (2, -3), (1, 0)),
-    (2, (2, 3), (3, -1), (1, 0)),
-    (3, (3, 1), (1, -2), (1, 0)),
-];
-
-fn checked<'a>(
-    alloc: Global,
-    tables: &'a Tables,
-) -> Result<Result<Rotation<'a>, CheckFault>, Fail> {
-    if are_in_range(tables) {
-        Ok(check(alloc, tables))
-    } else {
-        Err(Fail::new("a number that is out of range"))
-    }
-}
 
 /// The numbers of all darts.
 fn numbers(
@@ -93,7 +76,8 @@ fn part_numbers(
 #[test]
 fn a_triangle_has_two_rings_and_one_component(rt: HostRuntime) -> Result<(), Fail> {
     let given = tables(rt.alloc(), &NODES, &TRIANGLE, &[0, 1])?;
-    let rotation = checked(rt.alloc(), &given)??;
+    within_limits(&given)?;
+    let rotation = check(rt.alloc(), &given)?;
     assert_eq!(rt; first_mixed_ring(&rotation), None);
     has_parts(
         &rt,
@@ -115,7 +99,8 @@ fn parts_are_numbered_by_their_first_darts(rt: HostRuntime) -> Result<(), Fail> 
         (2, (2, 3), (3, -1), (1, 0)),
     ];
     let given = tables(rt.alloc(), &nodes, &edges, &[1, 2])?;
-    let rotation = checked(rt.alloc(), &given)??;
+    within_limits(&given)?;
+    let rotation = check(rt.alloc(), &given)?;
     assert_eq!(rt; first_mixed_ring(&rotation), None);
     has_parts(
         &rt,
@@ -134,12 +119,14 @@ fn an_open_edge_has_one_ring_and_a_map_without_edges_none(rt: HostRuntime) -> Re
         &[(7, (1, 2), (-7, 7), (0, 0))],
         &[],
     )?;
-    let rotation = checked(rt.alloc(), &given)??;
+    within_limits(&given)?;
+    let rotation = check(rt.alloc(), &given)?;
     has_parts(&rt, rt.alloc(), &rotation, (1, &[0, 0]), (1, &[0, 0]))?;
     let found = parts(rt.alloc(), &rotation)?;
     assert_eq!(rt; (found.rings(), found.components()), (1, 1));
     let nothing = tables(rt.alloc(), &[], &[], &[])?;
-    let empty = checked(rt.alloc(), &nothing)??;
+    within_limits(&nothing)?;
+    let empty = check(rt.alloc(), &nothing)?;
     assert_eq!(rt; first_mixed_ring(&empty), None);
     has_parts(&rt, rt.alloc(), &empty, (0, &[]), (0, &[]))?;
     let found = parts(rt.alloc(), &empty)?;
@@ -166,7 +153,8 @@ fn two_triangles_have_four_rings_and_two_components(rt: HostRuntime) -> Result<(
         (6, (6, 4), (4, -5), (2, 0)),
     ];
     let given = tables(rt.alloc(), &nodes, &edges, &[0, 1, 2])?;
-    let rotation = checked(rt.alloc(), &given)??;
+    within_limits(&given)?;
+    let rotation = check(rt.alloc(), &given)?;
     let found = parts(rt.alloc(), &rotation)?;
     assert_eq!(rt; (found.rings(), found.components()), (4, 2));
     let (rings, components) = part_numbers(rt.alloc(), &rotation, &found)?;
@@ -181,7 +169,8 @@ fn two_triangles_have_four_rings_and_two_components(rt: HostRuntime) -> Result<(
 fn an_isolated_node_is_in_no_component(rt: HostRuntime) -> Result<(), Fail> {
     let nodes = [(1, None), (5, Some(1)), (2, None), (3, None)];
     let given = tables(rt.alloc(), &nodes, &TRIANGLE, &[1])?;
-    let rotation = checked(rt.alloc(), &given)??;
+    within_limits(&given)?;
+    let rotation = check(rt.alloc(), &given)?;
     let found = parts(rt.alloc(), &rotation)?;
     assert_eq!(rt; (found.rings(), found.components()), (2, 1));
     Ok(())
@@ -191,7 +180,8 @@ fn an_isolated_node_is_in_no_component(rt: HostRuntime) -> Result<(), Fail> {
 fn two_closed_edges_that_cross_at_their_node_are_refused(rt: HostRuntime) -> Result<(), Fail> {
     let edges = [(1, (1, 1), (-2, 2), (0, 0)), (2, (1, 1), (1, -1), (0, 0))];
     let given = tables(rt.alloc(), &[(1, None)], &edges, &[])?;
-    let rotation = checked(rt.alloc(), &given)??;
+    within_limits(&given)?;
+    let rotation = check(rt.alloc(), &given)?;
     assert_eq!(rt;
         parts(rt.alloc(), &rotation).err(),
         Some(not_plane(1, 1, 2, 1))
@@ -207,7 +197,8 @@ fn three_edges_between_two_nodes_on_a_torus_are_refused(rt: HostRuntime) -> Resu
         (3, (1, 2), (-1, 1), (0, 0)),
     ];
     let given = tables(rt.alloc(), &NODES[..2], &edges, &[])?;
-    let rotation = checked(rt.alloc(), &given)??;
+    within_limits(&given)?;
+    let rotation = check(rt.alloc(), &given)?;
     assert_eq!(rt;
         parts(rt.alloc(), &rotation).err(),
         Some(not_plane(1, 2, 3, 1))
@@ -226,7 +217,8 @@ fn the_second_of_two_components_is_refused(rt: HostRuntime) -> Result<(), Fail> 
         (5, (4, 4), (4, -4), (0, 0)),
     ];
     let given = tables(rt.alloc(), &nodes, &edges, &[1])?;
-    let rotation = checked(rt.alloc(), &given)??;
+    within_limits(&given)?;
+    let rotation = check(rt.alloc(), &given)?;
     assert_eq!(rt;
         parts(rt.alloc(), &rotation).err(),
         Some(not_plane(4, 1, 2, 1))
@@ -247,7 +239,8 @@ fn of_two_components_that_are_not_plane_the_least_edge_is_named(
         (5, (2, 3), (-6, 6), (0, 0)),
     ];
     let given = tables(rt.alloc(), &NODES, &edges, &[])?;
-    let rotation = checked(rt.alloc(), &given)??;
+    within_limits(&given)?;
+    let rotation = check(rt.alloc(), &given)?;
     assert_eq!(rt;
         parts(rt.alloc(), &rotation).err(),
         Some(not_plane(4, 2, 3, 1))
@@ -261,7 +254,8 @@ fn a_ring_with_two_faces_is_refused_before_a_component_that_is_not_plane(
 ) -> Result<(), Fail> {
     let edges = [(1, (1, 1), (-2, 2), (0, 0)), (2, (1, 1), (1, -1), (0, 1))];
     let given = tables(rt.alloc(), &[(1, None)], &edges, &[1])?;
-    let rotation = checked(rt.alloc(), &given)??;
+    within_limits(&given)?;
+    let rotation = check(rt.alloc(), &given)?;
     assert_eq!(rt;
         parts(rt.alloc(), &rotation).err(),
         Some(CheckFault::Refused(Refusal::MixedRing { edge: 1, next: -2 }))
@@ -277,7 +271,8 @@ fn a_ring_with_one_wrong_side_is_refused(rt: HostRuntime) -> Result<(), Fail> {
         (3, (3, 1), (1, -2), (1, 0)),
     ];
     let given = tables(rt.alloc(), &NODES, &edges, &[0, 1])?;
-    let rotation = checked(rt.alloc(), &given)??;
+    within_limits(&given)?;
+    let rotation = check(rt.alloc(), &given)?;
     assert_eq!(rt;
         first_mixed_ring(&rotation),
         Some(Refusal::MixedRing { edge: 1, next: 2 })

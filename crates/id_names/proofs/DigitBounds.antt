@@ -1,10 +1,10 @@
 -- Bounds by the number of digits.
-use Rattle.std.proofs.Common.{◌≡◌, ℕ, zero, suc, ◌+◌, ◌*◌, ◌/◌, ◌<◌, ◌≤◌, ◌^◌, inl, inr, ap, ◌∙◌, arith}
+use Rattle.std.proofs.Common.{◌≡◌, ℕ, zero, suc, ◌+◌, ◌*◌, ◌/◌, ◌<◌, ◌≤◌, ◌^◌, ◌-◌, ◌⊎◌, inl, inr, refl, ap, ◌∙◌, arith}
 use Rattle.std.proofs.lemmas.Bool.{cases_lt}
 use Rattle.std.proofs.lemmas.Nat.{pow-add}
 use Rattle.std.proofs.Math.Nat.{pow-le-pow_right}
 use Rattle.bit_words.specs.Digits.{digits}
-use Rattle.bit_words.proofs.DigitLaws.{digits-zero, digits-half, digits-mono, digits-pow}
+use Rattle.bit_words.proofs.DigitLaws.{digits-zero, digits-half, digits-halved, digits-mono, digits-pow}
 
 below_to : (k n : ℕ) → n ≤ k → n < 2 ^ digits n
 below_to zero n h = let e : n ≡ 0 = omega arith in rw (e, digits-zero) (omega arith)
@@ -73,3 +73,24 @@ digits-is n m above few = elim (cases_lt (digits n) m) [
       absurd (omega (arith, below_power n, pow-add 2 (digits n) 1, p))
   | inr more ↦ omega (arith, digits-pow n m above)
 ]
+
+digits-256 : digits 256 ≡ 9
+unfolding digits
+digits-256 = refl
+
+-- 256 numbers and more have nine digits
+pub nine_digits : (n : ℕ) → 256 ≤ n → 9 ≤ digits (n + 2)
+nine_digits n h = omega (arith, digits-256, digits-mono 256 (n + 2) (omega arith))
+
+-- a search that looks at place j of from..to leaves one probe or one digit less: it has n places left, on either side
+pub less_left : (from to j probes n : ℕ) → from ≤ j → j < to → (probes ≡ 0 → j ≡ from + (to - from) / 2) → (n ≤ j - from) ⊎ (n ≤ to - (j + 1)) → (probes - 1) + digits n + 1 ≤ probes + digits (to - from)
+less_left from to j probes n a b middle side =
+    let few : n ≤ to - from = elim side [ inl l ↦ omega arith | inr l ↦ omega arith ] in
+    elim (cases_lt 0 probes) [
+      | inl some ↦ omega (arith, digits-mono n (to - from) few)
+      | inr none ↦
+          let z : probes ≡ 0 = omega arith in
+          let m = middle z in
+          let half : n ≤ (to - from) / 2 = elim side [ inl l ↦ omega arith | inr l ↦ omega arith ] in
+          omega (arith, digits-halved n (to - from) (omega arith) half)
+    ]

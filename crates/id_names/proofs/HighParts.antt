@@ -88,3 +88,13 @@ pub no_zero : (high : List Bool) (h k : ℕ) → IsSelected false high h None �
 no_zero high h k s l =
     let p = high_there high k l in
     omega (arith, rank-le-rank false high p.0 (length high) (omega (arith, p.1.within)), p.1.zeros, s)
+
+-- where all n ones stand before h zeros
+pub all_before : (high : List Bool) (n h k : ℕ) → n + h ≤ length high → rank true high (n + h) ≡ n → k < n → k < rank true high (length high) → high_part high k ≤ h
+all_before high n h k within all few l =
+    let p = high_there high k l in
+    let both = rank_both high (n + h) within in
+    elim (cases_lt (n + h) p.0) [
+      | inl less ↦ absurd (omega (arith, rank-le-rank true high (n + h) p.0 (omega arith), all, few, p.1.ones))
+      | inr more ↦ omega (arith, rank-le-rank false high p.0 (n + h) more, both, all, p.1.zeros)
+    ]

@@ -26,3 +26,4 @@ pub mod PlaceLaws
 pub mod MadeSizes
 pub mod MakingLaws
 pub mod InCycles
+pub mod InRuns

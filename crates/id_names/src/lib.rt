@@ -18,6 +18,7 @@ mod place_words;
 mod rising_ids;
 mod rising_words;
 mod sorted;
+mod span;
 mod view;
 mod ways;
 pub mod worked;

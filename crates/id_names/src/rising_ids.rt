@@ -7,6 +7,7 @@ ghost use Rattle.bit_words.specs.PackedView.{fields_of, width_of};
 ghost use Rattle.rank_select.specs.RankView.{counted};
 
 use crate::inverse::binary_digits;
+use crate::span::Span;
 use bit_words::{PackedView, Steps};
 use rank_select::RankView;
 use std::sync::ledger::Ledger;
@@ -23,7 +24,7 @@ pub(crate) struct RisingIds<'a> {
 }
 
 impl<'a> RisingIds<'a> {
-    ghost use Rattle.std.specs.Prelude.{ℕ, ◌≡◌, ◌<◌, ◌≤◌, ◌+◌, ◌*◌, length, true, Some};
+    ghost use Rattle.std.specs.Prelude.{ℕ, ◌≡◌, ◌<◌, ◌≤◌, ◌+◌, ◌*◌, length, true, Some, IsTrue};
     ghost use Rattle.bit_words.specs.Bits.{IsSelected};
     ghost use Rattle.bit_words.specs.Digits.{digits};
     ghost use Rattle.bit_words.specs.PackedView.{fields_of};
@@ -70,7 +71,7 @@ impl<'a> RisingIds<'a> {
         ensures above { (k : ℕ) → result ≤ k → k < length (fields_of self.now.lows)
             → high ≤ high_part (counted self.now.high) k }
         ensures grows { steps.old ≤ steps.new }
-        ensures cost { steps.new ≤ steps.old + 3 * digits (length (fields_of self.now.lows) + 2) + 16 }
+        ensures cost { steps.new ≤ steps.old + 2 * digits (length (fields_of self.now.lows) + 2) + 14 }
     {
         let Some(last) = high.checked_sub(1) else {
             return 0;
@@ -81,14 +82,73 @@ impl<'a> RisingIds<'a> {
         }
     }
 
+    /// Whether no id has a greater high part, as the count of the ones before so many zeros shows. Of few ids this is
+    /// not told.
+    fn is_greatest<C: Ledger>(&self, high: usize, steps: &mut Steps<C>) -> bool
+        ensures greatest { IsTrue result → (k : ℕ) → k < length (fields_of self.now.lows)
+            → high_part (counted self.now.high) k ≤ high }
+        ensures grows { steps.old ≤ steps.new }
+        ensures cost { steps.new ≤ steps.old + digits (length (fields_of self.now.lows) + 2) }
+    {
+        let count = self.lows.count();
+        if count < 256 || self.high.bits().len() - count < high {
+            return false;
+        }
+        self.high.rank1(count + high, steps) == count
+    }
+
+    /// How many ids have at most this high part.
+    fn up_to<C: Ledger>(&self, high: usize, steps: &mut Steps<C>) -> usize
+        requires { high < 18446744073709551615 }
+        ensures within { result ≤ length (fields_of self.now.lows) }
+        ensures below { (k : ℕ) → k < result → high_part (counted self.now.high) k ≤ high }
+        ensures above { (k : ℕ) → result ≤ k → k < length (fields_of self.now.lows)
+            → high < high_part (counted self.now.high) k }
+        ensures grows { steps.old ≤ steps.new }
+        ensures cost { steps.new ≤ steps.old + 3 * digits (length (fields_of self.now.lows) + 2) + 14 }
+    {
+        if self.is_greatest(high, steps) {
+            return self.lows.count();
+        }
+        self.below(high + 1, steps)
+    }
+
     /// The first place of an id with this high part, and the first behind all of these. Where there is none, both are
     /// the first place of a greater high part.
-    pub(crate) fn bucket<C: Ledger>(&self, high: usize, steps: &mut Steps<C>) -> (usize, usize)
+    fn bucket<C: Ledger>(&self, high: usize, steps: &mut Steps<C>) -> (usize, usize)
         requires { high < 18446744073709551615 }
         ensures places { IsBucket self.now high result.0 result.1 }
         ensures grows { steps.old ≤ steps.new }
-        ensures cost { steps.new ≤ steps.old + 6 * digits (length (fields_of self.now.lows) + 2) + 32 }
+        ensures cost { steps.new ≤ steps.old + 5 * digits (length (fields_of self.now.lows) + 2) + 28 }
     {
-        (self.below(high, steps), self.below(high + 1, steps))
+        (self.below(high, steps), self.up_to(high, steps))
+    }
+
+    /// The places of this high part to look in for a low part: where they are many, first by what the low parts at
+    /// their ends suggest.
+    pub(crate) fn span<C: Ledger>(&self, high: usize, steps: &mut Steps<C>) -> Span
+        requires { high < 18446744073709551615 }
+        ensures places { IsBucket self.now high result.from result.to }
+        ensures grows { steps.old ≤ steps.new }
+        ensures cost { steps.new + 2 * result.probes
+            ≤ steps.old + 6 * digits (length (fields_of self.now.lows) + 2) + 30 }
+    {
+        let (from, to) = self.bucket(high, steps);
+        if to - from < 256 {
+            return Span {
+                from,
+                to,
+                least: 0,
+                greatest: 0,
+                probes: 0,
+            };
+        }
+        Span {
+            from,
+            to,
+            least: self.lows.field(from, steps),
+            greatest: self.lows.field(to - 1, steps),
+            probes: 3,
+        }
     }
 }

@@ -118,13 +118,14 @@ impl<'a> NamesView<'a> {
         let low = self.ids.lows.width();
         let high = (id >> low) as usize;
         let wanted = id % (1 << low);
-        let (mut from, mut to) = self.ids.bucket(high, steps);
-        while from < to {
-            let middle = from + (to - from) / 2;
-            match self.ids.lows.field(middle, steps).cmp(&wanted) {
-                Ordering::Less => from = middle + 1,
-                Ordering::Equal => return Some(middle),
-                Ordering::Greater => to = middle,
+        let mut span = self.ids.span(high, steps);
+        while span.from < span.to {
+            let place = span.place(wanted);
+            let number = self.ids.lows.field(place, steps);
+            match number.cmp(&wanted) {
+                Ordering::Less => span = span.behind(place, number),
+                Ordering::Equal => return Some(place),
+                Ordering::Greater => span = span.before(place, number),
             }
         }
         None

@@ -7,14 +7,7 @@ use std::alloc::Global;
 use std::process::Abort;
 use std::test::Fail;
 use topo_base::{IdNumber, Refusal};
-use worked_maps::{Edge, Node, are_in_range, tables};
-
-/// The edges of a triangle whose inner face is 1.
-const TRIANGLE: [Edge; 3] = [
-    (1, (1, 2), (2, -3), (1, 0)),
-    (2, (2, 3), (3, -1), (1, 0)),
-    (3, (3, 1), (1, -2), (1, 0)),
-];
+use worked_maps::{Edge, Node, TRIANGLE, tables, within_limits};
 
 fn placed(
     alloc: Global,
@@ -23,9 +16,7 @@ fn placed(
     faces: &[IdNumber],
 ) -> Result<Result<Placement, CheckFault>, Fail> {
     let tables = tables(alloc, nodes, edges, faces)?;
-    if !are_in_range(&tables) {
-        return Err(Fail::new("a number that is out of range"));
-    }
+    within_limits(&tables)?;
     let rotation = check(alloc, &tables)?;
     let parts = parts(alloc, &rotation)?;
     Ok(place(alloc, &rotation, &parts, &tables.faces))

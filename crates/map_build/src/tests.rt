@@ -13,14 +13,9 @@ use std::marker::Brand;
 use std::sync::ledger::{Blank, Ledger};
 use std::test::Fail;
 use topo_base::{IdNumber, Refusal, Table};
-use worked_maps::{Edge, Member, Node, Region, are_in_range, tables, tables_with_regions};
-
-/// The edges of a triangle whose inner face is 1.
-const TRIANGLE: [Edge; 3] = [
-    (1, (1, 2), (2, -3), (1, 0)),
-    (2, (2, 3), (3, -1), (1, 0)),
-    (3, (3, 1), (1, -2), (1, 0)),
-];
+use worked_maps::{
+    Edge, Member, Node, Region, TRIANGLE, tables, tables_with_regions, within_limits,
+};
 
 /// The edges of six triangles side by side.
 const SIX_TRIANGLES: [Edge; 18] = [
@@ -46,9 +41,7 @@ const SIX_TRIANGLES: [Edge; 18] = [
 
 /// The image of these tables.
 fn built_of(alloc: Global, tables: &Tables) -> Result<Result<Vec<u8>, BuildFault>, Fail> {
-    if !are_in_range(tables) {
-        return Err(Fail::new("a number that is out of range"));
-    }
+    within_limits(tables)?;
     Ok(build(alloc, tables))
 }
 

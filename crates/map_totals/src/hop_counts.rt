@@ -53,8 +53,8 @@ fn from_border(cell: u32) -> u32 {
     from_end(place / 30).min(from_end(place % 30))
 }
 
-/// How many moves lead from a cell of that grid to cell 437, in row 14 and column 16: by rows and columns, or over
-/// face 0.
+/// How many moves lead from a cell of that grid to cell 437, which has 14 cells below it and 16 on its left: cell by
+/// cell, or over face 0.
 fn cell_moves(cell: u32) -> u32 {
     let place = cell.saturating_sub(1);
     let inside = (place / 30)

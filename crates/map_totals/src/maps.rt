@@ -8,7 +8,7 @@ use plane_model::{EdgeRow, FaceRow, NodeRow, Tables};
 use std::alloc::{AllocError, Global};
 use std::test::Fail;
 use topo_base::{IdNumber, SignedNumber};
-use worked_maps::are_in_range;
+use worked_maps::within_limits;
 
 /// The image of these rows.
 fn image_of(
@@ -24,9 +24,7 @@ fn image_of(
         regions: Vec::new(alloc),
         members: Vec::new(alloc),
     };
-    if !are_in_range(&tables) {
-        return Err(Fail::new("a number that is out of range"));
-    }
+    within_limits(&tables)?;
     match build(alloc, &tables) {
         Ok(image) => Ok(image),
         Err(_) => Err(Fail::new("no image")),

@@ -19,7 +19,6 @@ use Rattle.file_laws.specs.Lawful.{is_whole}
 use Rattle.navigate.specs.Bound.{map_with, line_digits, line_words}
 use Rattle.navigate.specs.IslandWalk.{contents_in, hole_edges, nodes_between, items_between, rest, price, allowance}
 use Rattle.navigate.specs.declared.inside.IslandWalk.{IslandWalk}
-use Rattle.std.proofs.Math.Nat.{mul-le-mul_left}
 use Rattle.plane_model.specs.declared.rows.NodeRow.{NodeRow}
 use Rattle.plane_model.specs.Rows.{Rows}
 use Rattle.plane_model.specs.Sets.{is_distinct}
@@ -29,6 +28,7 @@ use Rattle.file_laws.proofs.Consistent.{rotation_of}
 use Rattle.file_laws.proofs.Rotation.{face_of, node_key, node_keys_from}
 use Rattle.navigate.proofs.Facts.{w}
 use Rattle.navigate.proofs.OrbitLengths.{some_digits}
+use Rattle.navigate.proofs.PriceLaws.{items_fit}
 use Rattle.navigate.proofs.PlaceLaws.{ids_rise}
 use Rattle.navigate.proofs.HoleLaws.{AreAt, in_order, one_place, holes_at}
 use Rattle.navigate.proofs.FaceLaws.{between-next, between-none}
@@ -199,9 +199,6 @@ module _ (c : Contents) (h : is_whole c ≡ true) where
 pub islands_fit : (c : Contents) (v : IslandWalk) (first last : ℕ) → contents_in v ≡ c → last ≤ first + (28 * line_digits c + 60) → last + allowance v ≤ first + line_words c 0 (length (rest v))
 unfolding allowance
 islands_fit c v first last same h =
-    let d = line_digits c in
-    let n = length (rest v) in
-    let walk : price (contents_in v) * n ≡ price c * n = ap (λ x. price x * n) same in
+    let each : price (contents_in v) ≡ price c = ap (λ x. price x) same in
     let two = some_digits c in
-    let each : n * 2 ≤ n * d = mul-le-mul_left n two in
-    omega (arith, walk, each, two, h)
+    items_fit c (price (contents_in v)) (length (rest v)) first last (omega (arith, each, two)) h

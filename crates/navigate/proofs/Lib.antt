@@ -2,6 +2,7 @@ pub mod Walking
 pub mod Resting
 pub mod Leasts
 pub mod OrbitLengths
+pub mod PriceLaws
 pub mod Facts
 pub mod MapLists
 pub mod Rings

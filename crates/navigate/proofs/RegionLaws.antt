@@ -22,6 +22,7 @@ use Rattle.navigate.specs.RegionWalk.{contents_in, ids_up, rest, price, allowanc
 use Rattle.navigate.specs.declared.upward.RegionWalk.{RegionWalk}
 use Rattle.navigate.proofs.Facts.{w, members_many}
 use Rattle.navigate.proofs.OrbitLengths.{some_digits}
+use Rattle.navigate.proofs.PriceLaws.{items_fit}
 
 upward-none : (n : ℕ) (bits : List Bool) → upward n bits None ≡ []
 unfolding upward
@@ -160,12 +161,9 @@ up_paid c xs ys id first last e h =
 pub walk_fits : (c : Contents) (v : RegionWalk) (first last : ℕ) → contents_in v ≡ c → last ≤ first + (12 * line_digits c + 62) → last + allowance v ≤ first + line_words c 0 (length (rest v))
 unfolding allowance
 walk_fits c v first last same h =
-    let d = line_digits c in
-    let n = length (rest v) in
-    let walk : price (contents_in v) * n ≡ price c * n = ap (λ x. price x * n) same in
+    let each : price (contents_in v) ≡ price c = ap (λ x. price x) same in
     let two = some_digits c in
-    let each : n * 2 ≤ n * d = mul-le-mul_left n two in
-    omega (arith, walk, each, two, h)
+    items_fit c (price (contents_in v)) (length (rest v)) first last (omega (arith, each, two)) (omega (arith, two, h))
 
 -- what two faces share is paid for
 pub shared_fits : (c : Contents) (n first last : ℕ) → last ≤ first + (45 * line_digits c + 274) → last ≤ first + line_words c 0 n

@@ -1,5 +1,5 @@
 -- laws of counts, and of the bits of a chunk
-use Rattle.std.proofs.Common.{◌≡◌, ℕ, zero, suc, ◌+◌, ◌-◌, ◌*◌, ◌/◌, ◌%◌, ◌<◌, ◌≤◌, Bool, true, false, List, [], ◌∷◌, length, get_or, refl, ap, sym, ◌∙◌, arith, ⊎_elim, min, cond, ◌++◌, add-zero, not, eqb, ◌^◌}
+use Rattle.std.proofs.Common.{◌≡◌, ℕ, zero, suc, ◌+◌, ◌-◌, ◌*◌, ◌/◌, ◌%◌, ◌<◌, ◌≤◌, Bool, true, false, List, [], ◌∷◌, length, get_or, refl, ap, sym, inl, inr, ◌∙◌, arith, ⊎_elim, min, cond, ◌++◌, add-zero, not, eqb, ◌^◌}
 use Rattle.std.proofs.lemmas.Bool.{cases_lt}
 use Rattle.std.proofs.lemmas.List.{take_all, get_or_past, get_or_default}
 use Rattle.std.specs.Int.{bit_at, w64, div_ceil}
@@ -11,7 +11,7 @@ use Rattle.bit_words.proofs.Ranks.{rank-zero, rank-le, rank_more_yes, rank_more_
 use Rattle.bit_words.proofs.BitLists.{length-tabulate, get_or-tabulate, tabulate_more, length-word_bits, get_or-word_bits}
 use Rattle.bit_words.proofs.DigitLaws.{digits-half, digits-halved, digits-mono}
 use Rattle.bit_words.specs.Digits.{digits}
-use Rattle.rank_select.proofs.Selects.{same-true}
+use Rattle.rank_select.proofs.Selects.{same-true, cases_kind}
 use Rattle.rank_select.specs.Counts.{blocks, counts_of, KindChunk}
 
 pub length-counts_of : (bits : List Bool) → length (counts_of bits) ≡ blocks (length bits) + 1
@@ -136,7 +136,32 @@ pub ruleset shares = (product_fits)
 pub block_digits : (n : ℕ) → digits (blocks n) + 1 ≤ digits (n + 2)
 block_digits n = digits-halved (blocks n) (n + 2) (omega arith) (omega arith)
 
-pub ruleset selects_all = (block_digits)
+-- and two less where a block is whole
+pub whole_block_digits : (n : ℕ) → 512 ≤ n → digits (blocks n) + 2 ≤ digits (n + 2)
+whole_block_digits n h = omega (arith, digits-half (n + 2) (omega arith), digits-halved (blocks n) ((n + 2) / 2) (omega arith) (omega arith))
+
+-- each bit is of a kind or of the other
+rank_kinds : (kind : Bool) (bits : List Bool) (i : ℕ) → i ≤ length bits → rank kind bits i + rank (not kind) bits i ≡ i
+rank_kinds true bits i h = rank_both bits i h
+rank_kinds false bits i h = omega (arith, rank_both bits i h)
+
+-- before each place of a run of a kind there are as many of it as there are bits
+rank_run : (kind : Bool) (bits : List Bool) (n i : ℕ) → n ≤ length bits → rank kind bits n ≡ n → i ≤ n → rank kind bits i ≡ i
+rank_run kind bits n i l e h = omega (arith, rank_kinds kind bits n l, rank_kinds kind bits i (omega arith), rank-le-rank (not kind) bits i n h)
+
+-- in a run of a kind from the start on, the place of each bit is its number
+pub run_selected : (kind : Bool) (bits : List Bool) (n j : ℕ) → n ≤ length bits → rank kind bits n ≡ n → j < n → (j < length bits) × (get_or bits j (not kind) ≡ kind) × (rank kind bits j ≡ j)
+run_selected kind bits n j l e h =
+    let within : j < length bits = omega arith in
+    let before = rank_run kind bits n j l e (omega arith) in
+    let after = rank_run kind bits n (j + 1) l e (omega arith) in
+    let own : get_or bits j (not kind) ≡ kind =
+    elim (cases_kind kind (get_or bits j (not kind))) [
+      | inl is ↦ is
+      | inr other ↦ absurd (omega (arith, before, after, rank_more_no kind bits j (not kind) within other))
+    ] in (within, own, before)
+
+pub ruleset select_costs = (block_digits, whole_block_digits)
 
 pub ruleset nearer = (rank-le, rank-le-all, some_block)
 

@@ -24,6 +24,7 @@ enum Pattern {
     Ones,
     Zeros,
     EachThird,
+    OnesFirst,
 }
 
 impl Pattern {
@@ -34,6 +35,7 @@ impl Pattern {
                 Pattern::Ones => true,
                 Pattern::Zeros => false,
                 Pattern::EachThird => i % 3 == 0,
+                Pattern::OnesFirst => i < 600,
             })?;
         }
         Ok(bits)
@@ -194,7 +196,12 @@ fn the_first_wrong_count_is_named(rt: HostRuntime) -> Result<(), Fail> {
 #[test]
 fn counts_and_places_are_those_of_plain_counting(rt: HostRuntime) -> Result<(), Fail> {
     for len in [0, 511, 512, 513, 1024] {
-        for pattern in [Pattern::Ones, Pattern::Zeros, Pattern::EachThird] {
+        for pattern in [
+            Pattern::Ones,
+            Pattern::Zeros,
+            Pattern::EachThird,
+            Pattern::OnesFirst,
+        ] {
             let bits = pattern.bits(rt.alloc(), len)?;
             assert!(rt; bits.len() <= 2147483647);
             let image = image_of(rt.alloc(), bits.as_slice())?;

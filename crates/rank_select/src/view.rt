@@ -41,7 +41,7 @@ pub struct RankView<'a> {
 }
 
 impl<'a> RankView<'a> {
-    ghost use Rattle.std.specs.Prelude.{◌≡◌, ◌<◌, ◌≤◌, ◌+◌, ◌-◌, ◌*◌, ◌/◌, ◌^◌, length, min, true, false};
+    ghost use Rattle.std.specs.Prelude.{◌≡◌, ◌<◌, ◌≤◌, ◌+◌, ◌-◌, ◌*◌, ◌/◌, ◌^◌, ◌==◌, length, min, true, false};
     ghost use Rattle.bit_words.specs.BitView.{bits_of};
     ghost use Rattle.bit_words.specs.PackedView.{fields_of, width_of};
     ghost use Rattle.bit_words.specs.Bits.{rank, IsSelected};
@@ -338,9 +338,15 @@ impl<'a> RankView<'a> {
         unreachable!()
     }
 
-    /// The place of the bit of this kind that has `j` of its kind before it, or None where there is none.
+    /// The place of the bit of this kind that has `j` of its kind before it, or None where there is none, by a search
+    /// for its block.
     #[tactic(auto, using(crate::proofs::CountLaws::searches))]
-    fn select<C: Ledger>(&self, kind: bool, j: usize, steps: &mut Steps<C>) -> Option<usize>
+    fn select_by_search<C: Ledger>(
+        &self,
+        kind: bool,
+        j: usize,
+        steps: &mut Steps<C>,
+    ) -> Option<usize>
         ensures selected { IsSelected kind (counted self.now) j result }
         ensures some_steps { steps.old + 1 ≤ steps.new }
         ensures cost { steps.new ≤ steps.old + 2 * digits (blocks (length (counted self.now))) + 12 }
@@ -355,22 +361,48 @@ impl<'a> RankView<'a> {
         Some(self.select_in(kind, j, block, before, steps))
     }
 
+    /// Whether all bits before block `block` are of this kind, by one step.
+    #[inline]
+    fn is_run_to<C: Ledger>(&self, kind: bool, block: usize, steps: &mut Steps<C>) -> bool
+        requires within { 512 * block ≤ length (counted self.now) }
+        ensures run { result ≡ (rank kind (counted self.now) (512 * block) == 512 * block) }
+        ensures one_step { steps.new ≡ steps.old + 1 }
+    {
+        self.kind_before(kind, block, steps) == 512 * block
+    }
+
+    /// The place of the bit of this kind that has `j` of its kind before it, or None where there is none: by one step
+    /// where all bits to the end of block `j / 512` are of this kind, and else by a search.
+    #[tactic(auto, using(crate::proofs::CountLaws::select_costs))]
+    fn select<C: Ledger>(&self, kind: bool, j: usize, steps: &mut Steps<C>) -> Option<usize>
+        ensures selected { IsSelected kind (counted self.now) j result }
+        ensures some_steps { steps.old + 1 ≤ steps.new }
+        ensures cost { steps.new ≤ steps.old + 2 * digits (length (counted self.now) + 2) + 10 }
+    {
+        let block = j / 512 + 1;
+        if self.bits.len() / 512 < block {
+            return self.select_by_search(kind, j, steps);
+        }
+        if self.is_run_to(kind, block, steps) {
+            return Some(j);
+        }
+        self.select_by_search(kind, j, steps)
+    }
+
     /// The place of the one with `j` ones before it, or None where there are at most `j` ones.
-    #[tactic(auto, using(crate::proofs::CountLaws::selects_all))]
     pub fn select1<C: Ledger>(&self, j: usize, steps: &mut Steps<C>) -> Option<usize>
         ensures selected { IsSelected true (counted self.now) j result }
         ensures some_steps { steps.old + 1 ≤ steps.new }
-        ensures cost { steps.new ≤ steps.old + 3 * digits (length (counted self.now) + 2) + 10 }
+        ensures cost { steps.new ≤ steps.old + 2 * digits (length (counted self.now) + 2) + 10 }
     {
         self.select(true, j, steps)
     }
 
     /// The place of the zero with `j` zeros before it, or None where there are at most `j` zeros.
-    #[tactic(auto, using(crate::proofs::CountLaws::selects_all))]
     pub fn select0<C: Ledger>(&self, j: usize, steps: &mut Steps<C>) -> Option<usize>
         ensures selected { IsSelected false (counted self.now) j result }
         ensures some_steps { steps.old + 1 ≤ steps.new }
-        ensures cost { steps.new ≤ steps.old + 3 * digits (length (counted self.now) + 2) + 10 }
+        ensures cost { steps.new ≤ steps.old + 2 * digits (length (counted self.now) + 2) + 10 }
     {
         self.select(false, j, steps)
     }

@@ -6,7 +6,7 @@ use std::alloc::{AllocError, Global};
 use std::process::Abort;
 use std::test::Fail;
 use topo_base::{IdNumber, Refusal, SignedNumber, Table};
-use worked_maps::{Edge, Node, are_in_range, tables};
+use worked_maps::{Edge, Node, TRIANGLE, tables, within_limits};
 
 /// What is said of a dart: its next, its turn, the row of its node, the face on its left, and its signed edge.
 type Dart = (u32, u32, u32, IdNumber, SignedNumber);
@@ -14,23 +14,6 @@ type Dart = (u32, u32, u32, IdNumber, SignedNumber);
 const NODES: [Node; 3] = [(1, None), (2, None), (3, None)];
 
 const LOOP: Edge = (1, (1, 1), (1, -1), (0, 0));
-
-const TRIANGLE: [Edge; 3] = [
-    (1, (1, 2), (2, -3), (1, 0)),
-    (2, (2, 3), (3, -1), (1, 0)),
-    (3, (3, 1), (1, -2), (1, 0)),
-];
-
-fn checked<'a>(
-    alloc: Global,
-    tables: &'a Tables,
-) -> Result<Result<Rotation<'a>, CheckFault>, Fail> {
-    if are_in_range(tables) {
-        Ok(check(alloc, tables))
-    } else {
-        Err(Fail::new("a number that is out of range"))
-    }
-}
 
 fn darts(alloc: Global, rotation: &Rotation) -> Result<Vec<Dart>, AllocError> {
     let mut darts = Vec::new(alloc);
@@ -54,7 +37,8 @@ fn a_triangle_has_six_darts(rt: HostRuntime) -> Result<(), Fail> {
         &TRIANGLE,
         &[0, 1],
     )?;
-    let rotation = checked(rt.alloc(), &given)??;
+    within_limits(&given)?;
+    let rotation = check(rt.alloc(), &given)?;
     assert_eq!(rt; rotation.edges(), 3);
     assert_eq!(rt; rotation.nodes(), 3);
     let wanted: [Dart; 6] = [
@@ -79,7 +63,8 @@ fn three_parallel_edges_turn_round_their_nodes(rt: HostRuntime) -> Result<(), Fa
         (3, (1, 2), (-2, 1), (2, 0)),
     ];
     let given = tables(rt.alloc(), &nodes, &edges, &[2, 1])?;
-    let rotation = checked(rt.alloc(), &given)??;
+    within_limits(&given)?;
+    let rotation = check(rt.alloc(), &given)?;
     let wanted: [Dart; 6] = [
         (5, 2, 1, 0, 1),
         (2, 5, 0, 1, -1),
@@ -111,7 +96,8 @@ fn sparse_ids_loops_and_isolated_nodes_are_a_rotation(rt: HostRuntime) -> Result
         (4, (5, 5), (4, -4), (7, 0)),
     ];
     let given = tables(rt.alloc(), &nodes, &edges, &[7])?;
-    let rotation = checked(rt.alloc(), &given)??;
+    within_limits(&given)?;
+    let rotation = check(rt.alloc(), &given)?;
     assert_eq!(rt; rotation.edges(), 2);
     assert_eq!(rt; rotation.nodes(), 4);
     let wanted: [Dart; 4] = [
@@ -122,7 +108,8 @@ fn sparse_ids_loops_and_isolated_nodes_are_a_rotation(rt: HostRuntime) -> Result
     ];
     assert_eq!(rt; darts(rt.alloc(), &rotation)?.as_slice(), wanted.as_slice());
     let nothing = tables(rt.alloc(), &[], &[], &[])?;
-    let empty = checked(rt.alloc(), &nothing)??;
+    within_limits(&nothing)?;
+    let empty = check(rt.alloc(), &nothing)?;
     assert_eq!(rt; empty.edges(), 0);
     assert_eq!(rt; empty.nodes(), 0);
     Ok(())
@@ -141,7 +128,8 @@ struct Case<'a> {
 fn refuses(rt: &impl Abort, alloc: Global, cases: &[Case]) -> Result<(), Fail> {
     for case in cases {
         let given = tables(alloc, case.nodes, case.edges, case.faces)?;
-        let fault = checked(alloc, &given)?.err();
+        within_limits(&given)?;
+        let fault = check(alloc, &given).err();
         assert_eq!(rt;
             fault,
             Some(CheckFault::Refused(case.refusal)),

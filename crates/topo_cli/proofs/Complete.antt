@@ -22,6 +22,7 @@ of_tables files (Form.Query file) t P told is h = of_told files _ t P told is h
 of_tables files (Form.Check file) t P told is h = of_told files _ t P told is h
 of_tables files (Form.Trial n) t P told is h = subst P is h
 of_tables files (Form.Hops file from to) t P told is h = of_told files _ t P told is h
+of_tables files (Form.Border file region) t P told is h = of_told files _ t P told is h
 of_tables files (Form.Upgrade old new) t P told is h = of_told files _ t P told is h
 of_tables files (Form.Dump file dir) t P told is h = of_told files _ t P told is h
 
@@ -59,6 +60,7 @@ script_too_long c (Form.Query file) fine reads long = long_script c fine long
 script_too_long c (Form.Check file) fine reads long = reads
 script_too_long c (Form.Trial n) fine reads long = reads
 script_too_long c (Form.Hops file from to) fine reads long = reads
+script_too_long c (Form.Border file region) fine reads long = reads
 script_too_long c (Form.Upgrade old new) fine reads long = reads
 script_too_long c (Form.Dump file dir) fine reads long = reads
 

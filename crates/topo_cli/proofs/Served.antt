@@ -43,6 +43,7 @@ leaves_as_before c k s reads form kept = let P : Option Form → Type 0 = Leaves
     left (Form.Check file) reads = absurd reads
     left (Form.Trial n) reads = absurd reads
     left (Form.Hops file from to) reads = absurd reads
+    left (Form.Border file region) reads = absurd reads
     left (Form.Upgrade old new) reads = absurd reads
     left (Form.Dump file dir) reads = absurd reads
 
@@ -62,6 +63,7 @@ script_taken c k t s reads form are few =
     waits (Form.Check file) reads are = absurd reads
     waits (Form.Trial n) reads are = absurd reads
     waits (Form.Hops file from to) reads are = absurd reads
+    waits (Form.Border file region) reads are = absurd reads
     waits (Form.Upgrade old new) reads are = absurd reads
     waits (Form.Dump file dir) reads are = absurd reads
 
@@ -73,6 +75,7 @@ finishes c t (Form.Query file) reads h = h
 finishes c t (Form.Check file) reads h = absurd reads
 finishes c t (Form.Trial n) reads h = absurd reads
 finishes c t (Form.Hops file from to) reads h = absurd reads
+finishes c t (Form.Border file region) reads h = absurd reads
 finishes c t (Form.Upgrade old new) reads h = absurd reads
 finishes c t (Form.Dump file dir) reads h = absurd reads
 
@@ -83,6 +86,7 @@ finishes_part c t (Form.Query file) reads h = h
 finishes_part c t (Form.Check file) reads h = absurd reads
 finishes_part c t (Form.Trial n) reads h = absurd reads
 finishes_part c t (Form.Hops file from to) reads h = absurd reads
+finishes_part c t (Form.Border file region) reads h = absurd reads
 finishes_part c t (Form.Upgrade old new) reads h = absurd reads
 finishes_part c t (Form.Dump file dir) reads h = absurd reads
 

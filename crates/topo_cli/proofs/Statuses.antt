@@ -36,6 +36,7 @@ on_each files (Form.Query file) P h = if_some files (λ held. P (opened held fil
 on_each files (Form.Check file) P h = if_some files (λ held. P (opened held file)) (λ held. h (opened held file))
 on_each files (Form.Trial n) P h = h (checked (grid_of n))
 on_each files (Form.Hops file from to) P h = if_some files (λ held. P (opened held file)) (λ held. h (opened held file))
+on_each files (Form.Border file region) P h = if_some files (λ held. P (opened held file)) (λ held. h (opened held file))
 on_each files (Form.Upgrade old new) P h = if_some files (λ held. P (opened held old)) (λ held. h (opened held old))
 on_each files (Form.Dump file dir) P h = if_some files (λ held. P (opened held file)) (λ held. h (opened held file))
 
@@ -46,6 +47,7 @@ on_weaker files (Form.Query file) P Q each h = if_weaker files (λ held. P (open
 on_weaker files (Form.Check file) P Q each h = if_weaker files (λ held. P (opened held file)) (λ held. Q (opened held file)) (λ held. each (opened held file)) h
 on_weaker files (Form.Trial n) P Q each h = each (checked (grid_of n)) h
 on_weaker files (Form.Hops file from to) P Q each h = if_weaker files (λ held. P (opened held file)) (λ held. Q (opened held file)) (λ held. each (opened held file)) h
+on_weaker files (Form.Border file region) P Q each h = if_weaker files (λ held. P (opened held file)) (λ held. Q (opened held file)) (λ held. each (opened held file)) h
 on_weaker files (Form.Upgrade old new) P Q each h = if_weaker files (λ held. P (opened held old)) (λ held. Q (opened held old)) (λ held. each (opened held old)) h
 on_weaker files (Form.Dump file dir) P Q each h = if_weaker files (λ held. P (opened held file)) (λ held. Q (opened held file)) (λ held. each (opened held file)) h
 
@@ -97,6 +99,7 @@ script_unread c s unread =
     waits (Form.Check file) = unread
     waits (Form.Trial n) = unread
     waits (Form.Hops file from to) = unread
+    waits (Form.Border file region) = unread
     waits (Form.Upgrade old new) = unread
     waits (Form.Dump file dir) = unread
 
@@ -131,6 +134,7 @@ leaves c s (Some (Form.Query file)) quiet kept = kept
 leaves c s (Some (Form.Check file)) quiet kept = kept
 leaves c s (Some (Form.Trial n)) quiet kept = kept
 leaves c s (Some (Form.Hops file from to)) quiet kept = kept
+leaves c s (Some (Form.Border file region)) quiet kept = kept
 leaves c s (Some (Form.Upgrade old new)) quiet kept = left_quiet c (Form.Upgrade old new) (HoldsUpgrade old new) (HoldsUpgradePart old new) s quiet kept
 leaves c s (Some (Form.Dump file dir)) quiet kept = left_quiet c (Form.Dump file dir) (HoldsFolder dir) (HoldsFolderPart dir) s quiet kept
 
@@ -145,6 +149,7 @@ leaves_unwritten c k e form first kept = let P : Option Form → Type 0 = Leaves
     left (Form.Check file) first = kept
     left (Form.Trial n) first = kept
     left (Form.Hops file from to) first = kept
+    left (Form.Border file region) first = kept
     left (Form.Upgrade old new) first = on_same c.shelf.files_before (Form.Upgrade old new) (Err e) (LeavesPart c (HoldsUpgradePart old new)) first kept
     left (Form.Dump file dir) first = on_same c.shelf.files_before (Form.Dump file dir) (Err e) (LeavesPart c (HoldsFolderPart dir)) first kept
 

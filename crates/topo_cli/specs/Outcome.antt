@@ -16,6 +16,8 @@ use Rattle.file_laws.specs.Lawful.{StandsFor, is_lawful}
 use Rattle.map_build.specs.Made.{contents_of_map}
 use Rattle.map_totals.specs.Totals.{adjacent_total, face_total, most_total_words, node_total}
 use Rattle.face_hops.specs.Prices.{most_hop_words}
+use Rattle.region_border.specs.Prices.{most_border_words}
+use Rattle.outline_text.specs.Lines.{border_text, edges_told}
 use Rattle.file_parts.specs.Upgrade.{IsUpgradeOf}
 use Rattle.table_dump.specs.Dumped.{AreWritten, AreWrittenInPart, NamedText}
 use Rattle.table_dump.specs.Prices.{most_dump_words}
@@ -49,6 +51,7 @@ ReadsScript (Form.Query file) = ⊤
 ReadsScript (Form.Check file) = ⊥
 ReadsScript (Form.Trial n) = ⊥
 ReadsScript (Form.Hops file from to) = ⊥
+ReadsScript (Form.Border file region) = ⊥
 ReadsScript (Form.Upgrade old new) = ⊥
 ReadsScript (Form.Dump file dir) = ⊥
 
@@ -59,6 +62,7 @@ ChecksTables (Form.Query file) = ⊥
 ChecksTables (Form.Check file) = ⊥
 ChecksTables (Form.Trial n) = ⊤
 ChecksTables (Form.Hops file from to) = ⊥
+ChecksTables (Form.Border file region) = ⊥
 ChecksTables (Form.Upgrade old new) = ⊥
 ChecksTables (Form.Dump file dir) = ⊥
 
@@ -69,6 +73,7 @@ OpensFile (Form.Query file) = ⊤
 OpensFile (Form.Check file) = ⊤
 OpensFile (Form.Trial n) = ⊥
 OpensFile (Form.Hops file from to) = ⊤
+OpensFile (Form.Border file region) = ⊤
 OpensFile (Form.Upgrade old new) = ⊤
 OpensFile (Form.Dump file dir) = ⊤
 
@@ -79,6 +84,7 @@ ReadsShelf (Form.Query file) = ⊤
 ReadsShelf (Form.Check file) = ⊤
 ReadsShelf (Form.Trial n) = ⊥
 ReadsShelf (Form.Hops file from to) = ⊤
+ReadsShelf (Form.Border file region) = ⊤
 ReadsShelf (Form.Upgrade old new) = ⊤
 ReadsShelf (Form.Dump file dir) = ⊤
 
@@ -89,6 +95,7 @@ WritesFile (Form.Query file) = ⊥
 WritesFile (Form.Check file) = ⊥
 WritesFile (Form.Trial n) = ⊥
 WritesFile (Form.Hops file from to) = ⊥
+WritesFile (Form.Border file region) = ⊥
 WritesFile (Form.Upgrade old new) = ⊤
 WritesFile (Form.Dump file dir) = ⊤
 
@@ -144,6 +151,7 @@ ScriptWaits c (Form.Query file) = OnRead c.shelf.files_before (Form.Query file) 
 ScriptWaits c (Form.Check file) = IsUnread c
 ScriptWaits c (Form.Trial n) = IsUnread c
 ScriptWaits c (Form.Hops file from to) = IsUnread c
+ScriptWaits c (Form.Border file region) = IsUnread c
 ScriptWaits c (Form.Upgrade old new) = IsUnread c
 ScriptWaits c (Form.Dump file dir) = IsUnread c
 
@@ -246,6 +254,7 @@ LeavesFiles c s (Some (Form.Query file)) = KeepsFiles c
 LeavesFiles c s (Some (Form.Check file)) = KeepsFiles c
 LeavesFiles c s (Some (Form.Trial n)) = KeepsFiles c
 LeavesFiles c s (Some (Form.Hops file from to)) = KeepsFiles c
+LeavesFiles c s (Some (Form.Border file region)) = KeepsFiles c
 LeavesFiles c s (Some (Form.Upgrade old new)) = LeavesWritten c (Form.Upgrade old new) (HoldsUpgrade old new) (HoldsUpgradePart old new) s
 LeavesFiles c s (Some (Form.Dump file dir)) = LeavesWritten c (Form.Dump file dir) (HoldsFolder dir) (HoldsFolderPart dir) s
 
@@ -279,6 +288,12 @@ pub record IsHopped (c : Call) (m : PlaneMap) (from to : ℕ) : Type 0 where
   pub least : IsTrue (has_both_faces m from to) → c.steps_before + moves_between m from to ≤ c.steps_after
   pub most : c.steps_after ≤ c.steps_before + words_to_open m + most_hop_words m
 
+-- the lines of the outline of a region were written; words were read for each of its edges
+pub record IsOutlined (c : Call) (m : PlaneMap) (region : ℕ) : Type 0 where
+  pub wrote : Wrote c (border_text m region)
+  pub least : c.steps_before + edges_told m region ≤ c.steps_after
+  pub most : c.steps_after ≤ c.steps_before + words_to_open m + most_border_words m
+
 -- the tables of the map of a file were written, and a line of its counts; words were read for each of its edges
 pub record IsDumped (c : Call) (m : PlaneMap) : Type 0 where
   pub wrote : Wrote c (dumped_line m)
@@ -293,6 +308,7 @@ Finished c t (Form.Query file) = TookOfScript c (IsAnswered c (map_of t))
 Finished c t (Form.Check file) = IsReported c (map_of t) (lawful_line (map_of t))
 Finished c t (Form.Trial n) = IsWalked c (map_of t) n
 Finished c t (Form.Hops file from to) = IsHopped c (map_of t) from to
+Finished c t (Form.Border file region) = IsOutlined c (map_of t) region
 Finished c t (Form.Upgrade old new) = Wrote c (upgraded_line (map_of t))
 Finished c t (Form.Dump file dir) = IsDumped c (map_of t)
 
@@ -357,6 +373,7 @@ FinishedPart c t (Form.Query file) = TookOfScript c (λ taken. (length taken ≤
 FinishedPart c t (Form.Check file) = WrotePart c (lawful_line (map_of t))
 FinishedPart c t (Form.Trial n) = WrotePart c (trial_text n (map_of t))
 FinishedPart c t (Form.Hops file from to) = WrotePart c (hops_line (map_of t) from to)
+FinishedPart c t (Form.Border file region) = WrotePart c (border_text (map_of t) region)
 FinishedPart c t (Form.Upgrade old new) = WrotePart c (upgraded_line (map_of t))
 FinishedPart c t (Form.Dump file dir) = WrotePart c (dumped_line (map_of t))
 
@@ -430,6 +447,7 @@ IsScriptFineFor c (Form.Query file) = IsScriptFine c
 IsScriptFineFor c (Form.Check file) = ⊤
 IsScriptFineFor c (Form.Trial n) = ⊤
 IsScriptFineFor c (Form.Hops file from to) = ⊤
+IsScriptFineFor c (Form.Border file region) = ⊤
 IsScriptFineFor c (Form.Upgrade old new) = ⊤
 IsScriptFineFor c (Form.Dump file dir) = ⊤
 

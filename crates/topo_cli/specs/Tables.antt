@@ -97,6 +97,7 @@ OnRead files (Form.Query file) P = IfSome files (λ held. P (opened held file))
 OnRead files (Form.Check file) P = IfSome files (λ held. P (opened held file))
 OnRead files (Form.Trial n) P = P (checked (grid_of n))
 OnRead files (Form.Hops file from to) P = IfSome files (λ held. P (opened held file))
+OnRead files (Form.Border file region) P = IfSome files (λ held. P (opened held file))
 OnRead files (Form.Upgrade old new) P = IfSome files (λ held. P (opened held old))
 OnRead files (Form.Dump file dir) P = IfSome files (λ held. P (opened held file))
 
@@ -112,6 +113,7 @@ AreTold files (Form.Query file) = IsSome files
 AreTold files (Form.Check file) = IsSome files
 AreTold files (Form.Trial n) = ⊤
 AreTold files (Form.Hops file from to) = IsSome files
+AreTold files (Form.Border file region) = IsSome files
 AreTold files (Form.Upgrade old new) = IsSome files
 AreTold files (Form.Dump file dir) = IsSome files
 
@@ -127,5 +129,6 @@ IsNeeded (Form.Query file) name = name ≡ file
 IsNeeded (Form.Check file) name = name ≡ file
 IsNeeded (Form.Trial n) name = ⊥
 IsNeeded (Form.Hops file from to) name = name ≡ file
+IsNeeded (Form.Border file region) name = name ≡ file
 IsNeeded (Form.Upgrade old new) name = name ≡ old
 IsNeeded (Form.Dump file dir) name = name ≡ file

@@ -18,6 +18,8 @@ pub data Form : Type 0 where
   Trial : ℕ → Form
   -- `hops FILE F G`: a shortest walk from one face to another, in a built file
   Hops : List ℕ → ℕ → ℕ → Form
+  -- `border FILE R`: the outline of a region, in a built file
+  Border : List ℕ → ℕ → Form
   -- `upgrade OLD NEW`: the file of form 2 that stands for the map of a built file, written to a file
   Upgrade : List ℕ → List ℕ → Form
   -- `dump FILE DIR`: the tables of a built file, written to a folder
@@ -36,6 +38,10 @@ form_of_two word (b ∷ name) =
     else if bytes_eq word (codes "trial") then option_map Trial (grid_size (b ∷ name))
     else None
 
+-- a region of a built file
+abbrev pub border_of : List ℕ → List ℕ → Option Form
+border_of file region = option_map (Border file) (positive_number region)
+
 abbrev pub form_of_three : List ℕ → List ℕ → List ℕ → Option Form
 form_of_three word [] second = None
 form_of_three word (b ∷ first) [] = None
@@ -43,6 +49,7 @@ form_of_three word (b ∷ first) (c ∷ second) =
     if bytes_eq word (codes "build") then Some (Build (b ∷ first) (c ∷ second))
     else if bytes_eq word (codes "upgrade") then Some (Upgrade (b ∷ first) (c ∷ second))
     else if bytes_eq word (codes "dump") then Some (Dump (b ∷ first) (c ∷ second))
+    else if bytes_eq word (codes "border") then border_of (b ∷ first) (c ∷ second)
     else None
 
 -- two faces of a built file
@@ -70,6 +77,7 @@ form_of (command.Query file) = Query file.now
 form_of (command.Check file) = Check file.now
 form_of (command.Trial size) = Trial size
 form_of (command.Hops file from to) = Hops file.now from.0 to.0
+form_of (command.Border file region) = Border file.now region.0
 form_of (command.Upgrade old new) = Upgrade old.now new.now
 form_of (command.Dump file dir) = Dump file.now dir.now
 

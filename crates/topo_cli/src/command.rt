@@ -1,9 +1,9 @@
 //! What the words of the command line ask for.
 
 ghost use Rattle.std.specs.Prelude.{◌≡◌, map, option_map, string_bytes};
-ghost use Rattle.topo_cli.specs.Words.{form, form_of, form_of_four, form_of_three, form_of_two, grid_size, hops_of};
+ghost use Rattle.topo_cli.specs.Words.{border_of, form, form_of, form_of_four, form_of_three, form_of_two, grid_size, hops_of};
 
-use topo_base::{FaceId, IdNumber, read_id, read_positive};
+use topo_base::{FaceId, IdNumber, RegionId, read_id, read_positive};
 
 /// What the words ask for.
 #[derive(Clone, Copy, Debug, PartialEq, Eq)]
@@ -34,6 +34,11 @@ pub enum Command<'a> {
         file: &'a str,
         from: FaceId,
         to: FaceId,
+    },
+    /// The outline of a region, in a built file.
+    Border {
+        file: &'a str,
+        region: RegionId,
     },
     /// The file of form 2 that stands for the map of a built file, written to a file.
     Upgrade {
@@ -82,7 +87,15 @@ fn command_of_two<'a>(word: &str, name: &'a str) -> Option<Command<'a>>
     }
 }
 
-/// A command and two names.
+/// A file and a region in it.
+fn border<'a>(file: &'a str, region: &str) -> Option<Command<'a>>
+    ensures { option_map form_of result ≡ border_of file.now region.now }
+{
+    let region = RegionId(read_positive(region.as_bytes())?);
+    Some(Command::Border { file, region })
+}
+
+/// A command and two words more.
 fn command_of_three<'a>(word: &str, name: &'a str, other: &'a str) -> Option<Command<'a>>
     ensures { option_map form_of result ≡ form_of_three word.now name.now other.now }
 {
@@ -103,6 +116,8 @@ fn command_of_three<'a>(word: &str, name: &'a str, other: &'a str) -> Option<Com
             file: name,
             dir: other,
         })
+    } else if word == "border" {
+        border(name, other)
     } else {
         None
     }

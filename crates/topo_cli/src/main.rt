@@ -1,8 +1,9 @@
 //! Answers questions on a map from its PostGIS Topology tables, `tackcherry ask DIR < SCRIPT`; puts the map into a
 //! file, `tackcherry build DIR FILE`; answers from that file, `tackcherry query FILE < SCRIPT`; tells whether a file is
-//! lawful, `tackcherry check FILE`; tells a shortest walk between two faces of a file, `tackcherry hops FILE F G`;
-//! writes the file of form 2 of a file's map, `tackcherry upgrade OLD NEW`, or its tables, `tackcherry dump FILE DIR`;
-//! and tries itself on a grid, `tackcherry trial N`.
+//! lawful, `tackcherry check FILE`; tells a shortest walk between two faces of a file, `tackcherry hops FILE F G`,
+//! or the outline of a region, `tackcherry border FILE R`; writes the file of form 2 of a file's map,
+//! `tackcherry upgrade OLD NEW`, or its tables, `tackcherry dump FILE DIR`; and tries itself on a grid,
+//! `tackcherry trial N`.
 #![tactic(auto)]
 
 ghost use Rattle.std.specs.Prelude.{◌≡◌, ◌<◌, ℕ, IfOk, drop, map, string_bytes};

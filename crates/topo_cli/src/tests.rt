@@ -3,6 +3,7 @@
 ghost use Rattle.std.specs.Prelude.{◌≡◌, ◌<◌, ◌≤◌};
 
 mod long_cycle;
+mod outlines;
 
 use crate::trial::grid_image;
 use crate::{Status, run};
@@ -1667,9 +1668,9 @@ struct Told {
     out: &'static str,
 }
 
-/// Walks in the island's file and in that of a grid, an upgrade of that file, its tables, and words that are of no
-/// form.
-const TOLD: [Told; 17] = [
+/// Walks and outlines in the island's file and in that of a grid, an upgrade of that file, its tables, and words that
+/// are of no form.
+const TOLD: [Told; 23] = [
     Told {
         words: &["hops", "map.pemb", "0", "2"],
         status: Status::Done,
@@ -1722,6 +1723,36 @@ const TOLD: [Told; 17] = [
     },
     Told {
         words: &["hops", "map.pemb", "0", "1", "2"],
+        status: Status::Usage,
+        out: "usage\n",
+    },
+    Told {
+        words: &["border", "map.pemb", "2"],
+        status: Status::Done,
+        out: "ring: 1 2 3\nring: -4\nborder 2: 2 4\n",
+    },
+    Told {
+        words: &["border", "map.pemb", "1"],
+        status: Status::Done,
+        out: "ring: 1 2 3\nborder 1: 1 3\n",
+    },
+    Told {
+        words: &["border", "map.pemb", "9"],
+        status: Status::Done,
+        out: "border 9: unknown\n",
+    },
+    Told {
+        words: &["border", "no.pemb", "1"],
+        status: Status::Missing,
+        out: "missing no.pemb\n",
+    },
+    Told {
+        words: &["border", "map.pemb", "0"],
+        status: Status::Usage,
+        out: "usage\n",
+    },
+    Told {
+        words: &["border", "map.pemb"],
         status: Status::Usage,
         out: "usage\n",
     },

@@ -19,11 +19,12 @@ use crate::status::Status;
 use crate::trial::{grid_image, trial_lines};
 use bit_words::Steps;
 use file_parts::upgraded;
+use outline_text::border_text;
 use pemb_file::open;
 use ports::{Failed, Shelf, Sink, Source};
 use std::alloc::Global;
 use std::sync::ledger::Ledger;
-use topo_base::FaceId;
+use topo_base::{FaceId, RegionId};
 
 /// Writes the line of a status, and ends with that status.
 fn tell<K: Sink>(out: &mut K, line: &[u8], status: Status) -> Status
@@ -187,6 +188,33 @@ fn hops<H: Shelf, K: Sink, L: Ledger>(
     }
 }
 
+/// Tells the outline of a region of a file.
+fn border<H: Shelf, K: Sink, L: Ledger>(
+    alloc: Global,
+    file: &str,
+    region: RegionId,
+    shelf: &mut H,
+    out: &mut K,
+    steps: &mut Steps<L>,
+) -> Status
+    ensures { (script : SourceCall) → IsIdle script → IsPromised (call_of (Some (Form.Border file.now region.0))
+        (shelf_call H.files H.misses H.faults H.write_faults shelf.old shelf.new) script
+        (sink_call K.held K.faults out.old out.new) steps.old steps.new) result }
+{
+    let bytes = match load_file(alloc, shelf, file) {
+        Ok(bytes) => bytes,
+        Err(why) => return end_loading(alloc, why, out),
+    };
+    let served = match open(&bytes, steps) {
+        Ok(served) => served,
+        Err(why) => return end_loading(alloc, LoadFault::Unlawful(why), out),
+    };
+    match border_text(alloc, served, region, steps) {
+        Ok(text) => tell(out, &text, Status::Done),
+        Err(_) => Status::Memory,
+    }
+}
+
 /// Writes the file of form 2 that stands for the map of a file. All memory is taken before the first write.
 fn upgrade<H: Shelf, K: Sink, L: Ledger>(
     alloc: Global,
@@ -304,6 +332,7 @@ pub fn run<H: Shelf, S: Source, K: Sink, L: Ledger>(
         Some(Command::Check { file }) => check_file(alloc, file, shelf, out, steps),
         Some(Command::Trial { size }) => trial(alloc, size, out, steps),
         Some(Command::Hops { file, from, to }) => hops(alloc, file, from, to, shelf, out, steps),
+        Some(Command::Border { file, region }) => border(alloc, file, region, shelf, out, steps),
         Some(Command::Upgrade { old, new }) => upgrade(alloc, old, new, shelf, out, steps),
         Some(Command::Dump { file, dir }) => dump(alloc, file, dir, shelf, out, steps),
         None => tell(out, b"usage\n", Status::Usage),

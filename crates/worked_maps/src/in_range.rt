@@ -1,12 +1,13 @@
 //! Whether the numbers of tables and how many rows there are lie within the limits.
 
-ghost use Rattle.std.specs.Prelude.{◌≡◌, ◌&&◌, IsTrue};
+ghost use Rattle.std.specs.Prelude.{◌≡◌, ◌&&◌, IsTrue, OnOk};
 ghost use Rattle.std.specs.List.{list_all};
 ghost use Rattle.topo_base.specs.SignedEdge.{is_signed_edge};
 ghost use Rattle.plane_model.specs.InRange.{is_edge_in_range, is_face_id, is_id, is_in_range, is_none_or};
 ghost use Rattle.plane_model.specs.Rows.{rows_of};
 
 use plane_model::{EdgeRow, FaceRow, MemberRow, NodeRow, RegionRow, Tables};
+use std::test::Fail;
 use topo_base::{IdNumber, LARGEST_ID, SignedNumber};
 
 /// Whether a number may be the id of a node, an edge or a region.
@@ -83,7 +84,7 @@ pub fn are_members_in_range(members: &[MemberRow]) -> bool
 }
 
 /// Whether tables are in range.
-pub fn are_in_range(tables: &Tables) -> bool
+fn are_in_range(tables: &Tables) -> bool
     ensures { IsTrue result → IsTrue (is_in_range (rows_of tables.now)) }
 {
     if !are_nodes_in_range(&tables.nodes)
@@ -99,4 +100,15 @@ pub fn are_in_range(tables: &Tables) -> bool
         && tables.faces.len() <= 16_777_216
         && tables.regions.len() <= 16_777_216
         && tables.members.len() <= 16_777_217
+}
+
+/// Fails a test whose tables are not within the limits.
+pub fn within_limits(tables: &Tables) -> Result<(), Fail>
+    ensures { OnOk result (IsTrue (is_in_range (rows_of tables.now))) }
+{
+    if are_in_range(tables) {
+        Ok(())
+    } else {
+        Err(Fail::new("a number that is out of range"))
+    }
 }

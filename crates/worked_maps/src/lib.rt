@@ -4,5 +4,5 @@
 mod in_range;
 mod rows;
 
-pub use in_range::{are_faces_in_range, are_in_range, are_members_in_range, are_regions_in_range};
-pub use rows::{Edge, Member, Node, Region, tables, tables_with_regions};
+pub use in_range::{are_faces_in_range, are_members_in_range, are_regions_in_range, within_limits};
+pub use rows::{Edge, Member, Node, Region, TRIANGLE, tables, tables_with_regions};

@@ -21,6 +21,13 @@ pub type Region = (IdNumber, Option<IdNumber>);
 /// A member: its region and its face.
 pub type Member = (IdNumber, IdNumber);
 
+/// The edges of a triangle with the nodes 1, 2 and 3, whose inner face is 1.
+pub const TRIANGLE: [Edge; 3] = [
+    (1, (1, 2), (2, -3), (1, 0)),
+    (2, (2, 3), (3, -1), (1, 0)),
+    (3, (3, 1), (1, -2), (1, 0)),
+];
+
 /// The tables of these rows.
 pub fn tables_with_regions(
     alloc: Global,

@@ -1,7 +1,10 @@
 //! What is made of ids, word by word, and large names both ways.
 
-ghost use Rattle.std.specs.Prelude.{◌≡◌, ◌≤◌, ◌+◌, ◌*◌, ◌/◌, ◌%◌, map, IfOk};
+ghost use Rattle.std.specs.Prelude.{◌≡◌, ◌≤◌, ◌+◌, ◌*◌, ◌/◌, ◌%◌, length, map, IfOk};
 ghost use Rattle.std.specs.List.{range_with_len};
+ghost use Rattle.bit_words.specs.Digits.{digits};
+ghost use Rattle.id_names.specs.Names.{AreDistinctIds};
+ghost use Rattle.id_names.specs.RisingNames.{bound_of};
 
 use crate::make;
 use crate::tests::image::image_made;
@@ -100,28 +103,70 @@ fn ids_in_cycles(
     Ok(ids)
 }
 
-/// Whether what is made of these ids is checked, and each is found by its number and each number by its id.
-fn goes_both_ways(alloc: Global, cycles: IdNumber, len: IdNumber) -> Result<bool, Fail>
+/// 400 ids in runs of 100 that lie far apart.
+fn ids_in_runs(alloc: Global) -> Result<Vec<IdNumber>, AllocError>
+    ensures { IfOk result (λ ids. ids.items ≡ map (λ number. number + number / 100 * 1000 + 1) (range_with_len 0 400)) }
+{
+    let mut ids = Vec::new(alloc);
+    for number in 0..400 {
+        ids.push(number + number / 100 * 1000 + 1)?;
+    }
+    Ok(ids)
+}
+
+/// Whether what is made of these ids is checked, and each is found by its number and each number by its id, and the
+/// others are found at no number.
+fn goes_both_ways(
+    alloc: Global,
+    ids: &[IdNumber],
+    low: u32,
+    others: &[IdNumber],
+) -> Result<bool, Fail>
+    requires few { length ids.now ≤ 16777216 }
+    requires names { AreDistinctIds (bound_of (length ids.now) low) ids.now }
+    requires some { 1 ≤ low }
+    requires narrow { digits (length ids.now) + low ≤ 63 }
+{
+    let words = make(alloc, ids, low)?;
+    let image = image_made(alloc, ids.len(), low, &words)?;
+    match open::<Brand>(alloc, &image, Blank::new(1)) {
+        Some(Ok(names)) => Ok(has_ids::<Brand>(alloc, names, ids, others, Blank::new(1))),
+        _ => Ok(false),
+    }
+}
+
+/// Whether ids in so many cycles of this length go both ways.
+fn cycles_go_both_ways(alloc: Global, cycles: IdNumber, len: IdNumber) -> Result<bool, Fail>
     requires some { 1 ≤ len }
     requires few { cycles * len ≤ 100000 }
 {
     let ids = ids_in_cycles(alloc, cycles, len)?;
-    let words = make(alloc, &ids, 14)?;
-    let image = image_made(alloc, ids.len(), 14, &words)?;
-    match open::<Brand>(alloc, &image, Blank::new(1)) {
-        Some(Ok(names)) => Ok(has_ids::<Brand>(alloc, names, &ids, &[0], Blank::new(1))),
-        _ => Ok(false),
-    }
+    goes_both_ways(alloc, &ids, 14, &[0, 100001])
 }
 
 #[test]
 fn large_names_go_both_ways(rt: HostRuntime) -> Result<(), Fail> {
     let alloc = rt.alloc();
-    assert!(rt; goes_both_ways(alloc, 1, 100000)?, "one cycle");
+    assert!(rt; cycles_go_both_ways(alloc, 1, 100000)?, "one cycle");
     assert!(rt;
-        goes_both_ways(alloc, 1000, 10)?,
+        cycles_go_both_ways(alloc, 1000, 10)?,
         "cycles shorter than the stride"
     );
-    assert!(rt; goes_both_ways(alloc, 10000, 1)?, "each at its place");
+    assert!(rt; cycles_go_both_ways(alloc, 10000, 1)?, "each at its place");
+    Ok(())
+}
+
+#[test]
+fn ids_that_lie_unevenly_go_both_ways(rt: HostRuntime) -> Result<(), Fail> {
+    let alloc = rt.alloc();
+    let ids = ids_in_runs(alloc)?;
+    assert!(rt;
+        goes_both_ways(
+            alloc,
+            &ids,
+            30,
+            &[0, 101, 1100, 1700, 2200, 3401, 5000000000]
+        )?
+    );
     Ok(())
 }

@@ -1,9 +1,7 @@
-use Rattle.std.proofs.Common.{◌<◌, ◌^◌, ◌%◌, length, ap, sym, subst, ◌∙◌, arith}
-use Rattle.std.specs.List.{All}
-use Rattle.std.proofs.lemmas.List.{length-map}
+use Rattle.std.proofs.Common.{length, ap, ◌∙◌, arith}
 use Rattle.id_names.specs.Making.{low_parts}
 use Rattle.id_names.proofs.HighLaws.{high_few}
-use Rattle.id_names.proofs.SortedIds.{are_rising, lows_are, lows_fit}
+use Rattle.id_names.proofs.SortedIds.{are_rising, lows_are}
 use Rattle.id_names.proofs.Held.{held}
 use Rattle.id_names.proofs.rising_words.rising_words.Goals as goal
 

@@ -19,6 +19,10 @@ pub returns-in-Some-Hops : goal.returns-in-Some-Hops
 returns-in-Some-Hops g c =
     of_form _ _ _ _ _ _ _ _ (rw c.in-Some-Hops.field-0-is at c.in-Some-Hops.ensures) (c.hops.ensures _ (record { left = refl; faults = refl }))
 
+pub returns-in-Some-Border : goal.returns-in-Some-Border
+returns-in-Some-Border g c =
+    of_form _ _ _ _ _ _ _ _ (rw c.in-Some-Border.field-0-is at c.in-Some-Border.ensures) (c.border.ensures _ (record { left = refl; faults = refl }))
+
 pub returns-in-Some-Upgrade : goal.returns-in-Some-Upgrade
 returns-in-Some-Upgrade g c =
     of_form _ _ _ _ _ _ _ _ (rw c.in-Some-Upgrade.field-0-is at c.in-Some-Upgrade.ensures) (c.upgrade.ensures _ (record { left = refl; faults = refl }))

@@ -7,16 +7,16 @@ use Rattle.id_names.specs.RisingNames.{id_at}
 use Rattle.id_names.specs.Views.{names_in}
 use Rattle.id_names.proofs.view.NamesView.place_of.Given as goal
 
-abbrev pub invariant-loop-from : goal.invariant-loop-from
-invariant-loop-from g l = record {
-  order : l.from ≤ l.to;
-  within : l.to ≤ length (fields_of l.self.ids.lows);
-  bucket : (k : ℕ) → l.from ≤ k → k < l.to → high_part (counted l.self.ids.high) k ≡ l.high;
-  below : (k : ℕ) → k < l.from → id_at (names_in l.self) k < l.id;
-  above : (k : ℕ) → l.to ≤ k → k < length (fields_of l.self.ids.lows) → l.id < id_at (names_in l.self) k;
+abbrev pub invariant-loop-span : goal.invariant-loop-span
+invariant-loop-span g l = record {
+  order : l.span.from ≤ l.span.to;
+  within : l.span.to ≤ length (fields_of l.self.ids.lows);
+  bucket : (k : ℕ) → l.span.from ≤ k → k < l.span.to → high_part (counted l.self.ids.high) k ≡ l.high;
+  below : (k : ℕ) → k < l.span.from → id_at (names_in l.self) k < l.id;
+  above : (k : ℕ) → l.span.to ≤ k → k < length (fields_of l.self.ids.lows) → l.id < id_at (names_in l.self) k;
   grows : l.initial.steps ≤ l.steps;
-  steps : l.steps + 2 * digits (l.to - l.from) ≤ l.initial.steps + 2 * digits (length (fields_of l.self.ids.lows));
+  steps : l.steps + 2 * l.span.probes + 2 * digits (l.span.to - l.span.from) ≤ l.initial.steps + 2 * l.initial.span.probes + 2 * digits (length (fields_of l.self.ids.lows));
 }
 
-abbrev pub decreases-loop-from : goal.decreases-loop-from
-decreases-loop-from g l = l.to - l.from
+abbrev pub decreases-loop-span : goal.decreases-loop-span
+decreases-loop-span g l = l.span.to - l.span.from

@@ -1,9 +1,8 @@
-use Rattle.std.proofs.Common.{◌≡◌, ◌+◌, ◌<◌, length, ap, sym, subst, ◌∙◌, ℕ, arith}
-use Rattle.bit_words.specs.PackedView.{fields_of}
+use Rattle.std.proofs.Common.{ap, sym, ◌∙◌, arith}
 use Rattle.rank_select.specs.RankView.{counted}
 use Rattle.rank_select.specs.Counts.{counts_of}
 use Rattle.id_names.specs.RisingNames.{id_at}
-use Rattle.id_names.specs.Views.{names_in, ids_of}
+use Rattle.id_names.specs.Views.{names_in}
 use Rattle.id_names.proofs.NameLaws.{length-ids, get_or-ids, ordered}
 use Rattle.id_names.proofs.view.NamesView.rank_of.Goals as goal
 

@@ -1,0 +1,2 @@
+pub mod RingText
+pub mod BorderText

@@ -1,0 +1,16 @@
+pub mod Outlines
+pub mod BorderParts
+pub mod Scanning
+pub mod ItemLaws
+pub mod Resting
+pub mod MapFacts
+pub mod Insides
+pub mod Marking
+pub mod Paying
+pub mod Turning
+pub mod Settling
+pub mod ByPlace
+pub mod Giving
+pub mod Stepping
+pub mod KnownRegions
+pub mod Closing
