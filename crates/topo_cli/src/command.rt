@@ -1,7 +1,7 @@
 //! What the words of the command line ask for.
 
 ghost use Rattle.std.specs.Prelude.{◌≡◌, map, option_map, string_bytes};
-ghost use Rattle.topo_cli.specs.Words.{border_of, form, form_of, form_of_four, form_of_three, form_of_two, grid_size, hops_of};
+ghost use Rattle.topo_cli.specs.Words.{form, form_of, form_of_four, form_of_three, form_of_two, grid_size, hops_of};
 
 use topo_base::{FaceId, IdNumber, RegionId, read_id, read_positive};
 
@@ -87,14 +87,6 @@ fn command_of_two<'a>(word: &str, name: &'a str) -> Option<Command<'a>>
     }
 }
 
-/// A file and a region in it.
-fn border<'a>(file: &'a str, region: &str) -> Option<Command<'a>>
-    ensures { option_map form_of result ≡ border_of file.now region.now }
-{
-    let region = RegionId(read_positive(region.as_bytes())?);
-    Some(Command::Border { file, region })
-}
-
 /// A command and two words more.
 fn command_of_three<'a>(word: &str, name: &'a str, other: &'a str) -> Option<Command<'a>>
     ensures { option_map form_of result ≡ form_of_three word.now name.now other.now }
@@ -117,7 +109,13 @@ fn command_of_three<'a>(word: &str, name: &'a str, other: &'a str) -> Option<Com
             dir: other,
         })
     } else if word == "border" {
-        border(name, other)
+        match read_positive(other.as_bytes()) {
+            Some(region) => Some(Command::Border {
+                file: name,
+                region: RegionId(region),
+            }),
+            None => None,
+        }
     } else {
         None
     }
