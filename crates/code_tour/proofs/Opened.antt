@@ -1,6 +1,6 @@
 -- What passing a position does to the pairs round the gap, and what the innermost of them says.
 use Rattle.std.specs.Prelude.{not, map, take}
-use Rattle.std.proofs.Common.{◌≡◌, ℕ, ◌+◌, ◌/◌, ◌<◌, ◌≤◌, ◌⊎◌, inl, inr, Bool, true, false, List, [], ◌∷◌, ◌++◌, length, refl, ap, sym, ◌∙◌, arith, subst, Option, Some, None, IsTrue}
+use Rattle.std.proofs.Common.{◌≡◌, ℕ, ◌+◌, ◌/◌, ◌<◌, ◌≤◌, ◌⊎◌, inl, inr, Bool, true, false, List, [], ◌∷◌, ◌++◌, length, refl, ap, sym, ◌∙◌, arith, subst, Option, IsTrue}
 use Rattle.std.proofs.lemmas.Bool.{cases_lt}
 use Rattle.std.proofs.lemmas.List.{length_push, same_from_push}
 use Rattle.bit_words.specs.Bits.{rank}
@@ -16,17 +16,11 @@ use Rattle.code_laws.proofs.Mates.{first_at}
 use Rattle.code_laws.proofs.Selects.{pairs}
 use Rattle.code_laws.proofs.Stacks.{numbers-open, numbers-close, numbers-innermost}
 use Rattle.turan_code.specs.Numbering.{HaveBegun}
+use Rattle.turan_code.proofs.Numbered.{one_last}
 use Rattle.turan_code.proofs.Views.{place_lt}
 use Rattle.code_tour.specs.OpenPairs.{open_numbers, room_of, Passes}
 use Rattle.code_tour.specs.Gap.{AreOpen, HasBegun}
 use Rattle.code_tour.specs.declared.open_pairs.OpenPairs.{OpenPairs}
-
--- a list has one last number, or none
-one_last : (xs : List ℕ) (o r : Option ℕ) → IsLastOf xs o → IsLastOf xs r → o ≡ r
-one_last xs None None h k = refl
-one_last xs None (Some y) h k = absurd (omega (arith, ap length (sym h ∙ k.1), length_push k.0 y))
-one_last xs (Some x) None h k = absurd (omega (arith, ap length (sym k ∙ h.1), length_push h.0 x))
-one_last xs (Some x) (Some y) h k = ap Some (same_from_push h.0 k.0 x y (sym h.1 ∙ k.1)).1
 
 -- no pair is round the first gap
 pub none_open : (c : Code) (kind : Bool) (round : OpenPairs) → open_numbers round ≡ [] → round.depth ≡ 0 → round.opened ≡ 0 → round.place ≡ 0 → length (parens c kind) / 2 ≤ room_of round → AreOpen c kind 0 round

@@ -23,6 +23,7 @@ mod upward;
 
 pub use across::AdjacentWalk;
 pub use common_region::{common, region_walk};
+pub use directed::{number_with, with_direction};
 pub use edges::{FaceEdges, NodeEdges, RingEdges, face_edges, node_edges, ring_edges};
 pub use face_rings::FaceWalk;
 pub use faces::{face_walk, rings_at};

@@ -9,7 +9,7 @@ ghost use Rattle.region_border.specs.Prices.{most_border_words};
 ghost use Rattle.outline_text.specs.Lines.{border_text, edges_told, region_text};
 ghost use Rattle.outline_text.specs.Told.{counts_text, edges_among, outline_text};
 
-use crate::marking::{marks_over, words_for_marks};
+use crate::marking::words_for_marks;
 use crate::ring_lines::{RingCounts, append_rings};
 use bit_words::Steps;
 use pemb_file::Served;
@@ -105,7 +105,7 @@ pub fn border_text<L: Ledger>(
     ensures grows { steps.old ≤ steps.new }
 {
     let mut words = words_for_marks(alloc, &served)?;
-    let mut marks = marks_over(&mut words);
+    let mut marks = Marks::none(&mut words);
     let mut text = Vec::new(alloc);
     append_border(&mut text, served, region, &mut marks, steps)?;
     Ok(text)

@@ -1,16 +1,16 @@
 -- Border rings partition the border edges: all of them together are the border edges, each once, and what is looked at on the way round them is no more than all.
-use Rattle.std.proofs.Common.{◌≡◌, ℕ, zero, suc, ◌+◌, ◌<◌, ◌≤◌, inl, inr, ℤ, Bool, true, false, not, ◌&&◌, List, [], ◌∷◌, ◌++◌, map, length, refl, sym, ap, ◌∙◌, subst, arith}
-use Rattle.std.specs.Prelude.{if◌then◌else◌, filter, flat_map}
-use Rattle.std.proofs.lemmas.Bool.{and_parts, and_from, or_cases, cases_Bool, or_left, or_right, both_ways, not-true}
+use Rattle.std.proofs.Common.{◌≡◌, ℕ, zero, suc, ◌+◌, ◌≤◌, inl, inr, ℤ, Bool, true, false, ◌&&◌, List, [], ◌∷◌, ◌++◌, map, length, refl, sym, ap, ◌∙◌, subst, arith}
+use Rattle.std.specs.Prelude.{filter, flat_map}
+use Rattle.std.proofs.lemmas.Bool.{and_parts, or_cases, cases_Bool, both_ways}
 use Rattle.orbits.specs.Walks as walks
 use Rattle.orbits.specs.Walks.{returns, until_return}
-use Rattle.orbits.proofs.Lists.{pigeon, in_filter, from_filter, in_either, in_front, in_back, apart_kept}
+use Rattle.orbits.proofs.Lists.{pigeon, from_filter, apart_kept}
 use Rattle.orbits.proofs.Orbits.{orbit_returns, orbit_own, orbit_inside, orbit_same}
 use Rattle.topo_base.specs.SignedEdge.{same_edge}
 use Rattle.plane_model.specs.Rows.{Rows}
 use Rattle.plane_model.specs.Sets.{has_edge, is_distinct_edges}
 use Rattle.plane_model.specs.PlaneMap.{PlaneMap, map_of, signed_edges, smallest}
-use Rattle.plane_model.specs.Rotation.{is_rotation, is_rotation_system}
+use Rattle.plane_model.specs.Rotation.{is_rotation_system}
 use Rattle.plane_model.specs.Faces.{is_labelled, is_placed}
 use Rattle.plane_model.specs.Component.{is_plane}
 use Rattle.plane_model.specs.Regions.{is_region_forest}
@@ -18,15 +18,13 @@ use Rattle.plane_model.specs.Consistent.{is_consistent}
 use Rattle.plane_model.specs.InRange.{is_in_range}
 use Rattle.plane_model.specs.Orders.{Permutes, IsPartition, AreNames, IsAllOf}
 use Rattle.plane_model.specs.Border.{is_border, outline, border_ring, border}
-use Rattle.plane_model.proofs.SetLaws.{same_is, same_self, same_edges}
-use Rattle.plane_model.proofs.OuterRings.{distinct_append}
+use Rattle.plane_model.proofs.SetLaws.{same_edges}
 use Rattle.plane_model.proofs.RotationOrbits.{signed_apart, Parts, named, name_there, name_one}
 use Rattle.plane_model.proofs.ComponentParts.{orbit_partition}
-use Rattle.plane_model.proofs.Sums.{all_parts}
-use Rattle.placement_laws.specs.Placing.{IsLabelledRotation}
+use Rattle.plane_model.proofs.Sums.{from_flat, flat_apart, all_parts}
 use Rattle.placement_laws.proofs.Tables.{labelled_rotation_of}
 use Rattle.region_border.specs.Looked.{looked}
-use Rattle.region_border.proofs.Outlines.{IsTurned, turned_of, borders, listed, outlines_permute, looked_in, looked_apart, looked_one, IsIn}
+use Rattle.region_border.proofs.Outlines.{IsTurned, turned_of, borders, listed, outlines_permute, looked_in, looked_apart, looked_one}
 
 -- a walk that returns has no more with more fuel
 pub until-more : (n k : ℕ) (step : ℤ → ℤ) (first d : ℤ) → n ≤ k → returns same_edge n step first d ≡ true → until_return same_edge k step first d ≡ until_return same_edge n step first d
@@ -54,35 +52,6 @@ filter-both p q (d ∷ ds) = elim (cases_Bool (p d)) [
   ]
   | inr e ↦ rw e (filter-both p q ds)
 ]
-
-pub into_flat : (part : ℤ → List ℤ) (ns : List ℤ) (n x : ℤ) → has_edge ns n ≡ true → has_edge (part n) x ≡ true → has_edge (flat_map part ns) x ≡ true
-into_flat part [] n x h k = absurd (both_ways false refl h)
-into_flat part (y ∷ ys) n x h k = elim (or_cases (same_edge n y) (has_edge ys n) h) [
-  | inl is ↦ in_front same_edges (part y) (flat_map part ys) x (subst (λ z. has_edge (part z) x ≡ true) (same_is n y is) k)
-  | inr more ↦ in_back same_edges (part y) (flat_map part ys) x (into_flat part ys n x more k)
-]
-
-pub from_flat : (part : ℤ → List ℤ) (ns : List ℤ) (x : ℤ) → has_edge (flat_map part ns) x ≡ true → (n : ℤ) × (has_edge ns n ≡ true) × (has_edge (part n) x ≡ true)
-from_flat part [] x h = absurd (both_ways false refl h)
-from_flat part (y ∷ ys) x h = elim (in_either same_edges (part y) (flat_map part ys) x h) [
-  | inl here ↦ (y, or_left _ _ (same_self y), here)
-  | inr more ↦ let there = from_flat part ys x more in (there.0, or_right _ _ there.1, there.2)
-]
-
-flat_apart : (part : ℤ → List ℤ) (ns : List ℤ) → is_distinct_edges ns ≡ true → ((n : ℤ) → has_edge ns n ≡ true → is_distinct_edges (part n) ≡ true)
-    → ((n k x : ℤ) → has_edge ns n ≡ true → has_edge ns k ≡ true → has_edge (part n) x ≡ true → has_edge (part k) x ≡ true → n ≡ k) → is_distinct_edges (flat_map part ns) ≡ true
-flat_apart part [] h once one = refl
-flat_apart part (y ∷ ys) h once one =
-    let parts = and_parts (not (has_edge ys y)) (is_distinct_edges ys) h in
-    distinct_append (part y) (flat_map part ys) (once y (or_left _ _ (same_self y)))
-    (flat_apart part ys parts.1 (λ n k. once n (or_right _ _ k)) (λ n k x n_in k_in on_n on_k. one n k x (or_right _ _ n_in) (or_right _ _ k_in) on_n on_k))
-    (λ d on. elim (cases_Bool (has_edge (flat_map part ys) d)) [
-      | inl there ↦
-          let n = from_flat part ys d there in
-          let is = one n.0 y d (or_right _ _ n.1) (or_left _ _ (same_self y)) n.2 on in
-          absurd (both_ways _ (not-true _ parts.0) (subst (λ z. has_edge ys z ≡ true) is n.1))
-      | inr none ↦ none
-    ])
 
 -- a list of lists by what they are made from
 pub flat-map : (part : ℤ → List ℤ) (ns : List ℤ) → flat_map (λ ds. ds) (map part ns) ≡ flat_map part ns

@@ -13,9 +13,10 @@ use Rattle.plane_model.specs.Border.{is_border, border_ring}
 use Rattle.plane_model.proofs.SetLaws.{same_is, same_self, same_edges}
 use Rattle.plane_model.proofs.SortedEdges.{before_rank, smallest_least}
 use Rattle.plane_model.proofs.RotationOrbits.{named, name_there, name_one}
+use Rattle.plane_model.proofs.Sums.{into_flat, from_flat}
 use Rattle.region_border.specs.Beginnings.{begins_ring, edges_from}
 use Rattle.region_border.proofs.Outlines.{IsTurned, borders, listed}
-use Rattle.region_border.proofs.BorderParts.{ring_parts, named-is, into_flat, from_flat}
+use Rattle.region_border.proofs.BorderParts.{ring_parts, named-is}
 
 abbrev pub at : List ℤ → ℕ → ℤ
 at ds k = slice_index_or ds k (pos 0)

@@ -1,9 +1,7 @@
 //! Where rings of an outline begin: the signed edges in their order, and the first border edge without a mark.
 
-ghost use Rattle.std.specs.Prelude.{ℕ, ◌≡◌, ◌<◌, ◌≤◌, ◌+◌, ◌-◌, ◌*◌, ◌/◌, ◌%◌, ◌==◌, ◌&&◌, not, false, IsTrue, IsNone, IfSome, if◌then◌else◌, length, slice_index, pos, neg_ℤ};
+ghost use Rattle.std.specs.Prelude.{ℕ, ◌≡◌, ◌<◌, ◌≤◌, ◌+◌, ◌-◌, ◌*◌, ◌/◌, ◌%◌, ◌==◌, ◌&&◌, not, false, IsTrue, IsNone, IfSome, if◌then◌else◌, length, slice_index};
 ghost use Rattle.topo_base.specs.SignedEdge.{edge_of, is_forward};
-ghost use Rattle.topo_base.specs.declared.id.TheConstants.{LARGEST_ID};
-ghost use Rattle.id_names.specs.Names.{is_id};
 ghost use Rattle.plane_model.specs.Answers.{has_signed_edge};
 ghost use Rattle.plane_model.specs.Border as borders;
 ghost use Rattle.scratch_region.specs.Marks.{room_of, is_marked};
@@ -14,33 +12,11 @@ ghost use Rattle.region_border.specs.Prices.{scan_price, find_price, mark_price}
 
 use crate::looking::is_border;
 use bit_words::Steps;
+use navigate::with_direction;
 use pemb_file::Served;
 use scratch_region::Marks;
 use std::sync::ledger::Ledger;
-use topo_base::{IdNumber, Signed, SignedNumber};
-
-/// An edge's id with a direction: below zero backward.
-fn number_with(id: IdNumber, forward: bool) -> SignedNumber
-    requires { IsTrue (is_id (LARGEST_ID + 1) id) }
-    ensures { result ≡ (if forward then pos id else neg_ℤ (pos id)) }
-{
-    let Ok(number) = SignedNumber::try_from(id) else {
-        unreachable!()
-    };
-    if forward { number } else { -number }
-}
-
-/// An edge's id as a signed edge, forward or backward.
-fn with_direction(id: IdNumber, forward: bool) -> Signed
-    requires { IsTrue (is_id (LARGEST_ID + 1) id) }
-    ensures { result ≡ (if forward then pos id else neg_ℤ (pos id)) }
-{
-    let number = number_with(id, forward);
-    match Signed::new(number) {
-        Some(edge) => edge,
-        None => unreachable!(),
-    }
-}
+use topo_base::Signed;
 
 /// The number among the marks of a signed edge whose edge has a number.
 fn mark_with(number: usize, edge: Signed) -> usize

@@ -13,8 +13,8 @@ impl<'r> Marks<'r> {
     ghost use Rattle.std.specs.Prelude.{◌≡◌, ◌<◌, ◌==◌, ◌*◌, ◌≤◌, ℕ, length, false, true, if◌then◌else◌};
     ghost use Rattle.scratch_region.specs.Marks.{room_of, is_marked, IsEmpty};
 
-    /// No number, with room for 64 times as many as there are words.
-    pub(crate) fn none(words: &'r mut [u64]) -> Marks<'r>
+    /// No number, with room for 64 times as many as there are words, whatever they held.
+    pub fn none(words: &'r mut [u64]) -> Marks<'r>
         requires { length words.old ≤ 2147483647 }
         ensures room { room_of result ≡ 64 * length words.old }
         ensures empty { IsEmpty result }

@@ -1,8 +1,6 @@
 //! The ends of all edges, filled by one tour of the code.
 
-ghost use Rattle.std.specs.Prelude.{ℕ, ◌≡◌, ◌<◌, ◌≤◌, ◌+◌, ◌*◌, length, pos, neg_ℤ, IsTrue, if◌then◌else◌};
-ghost use Rattle.topo_base.specs.declared.id.TheConstants.{LARGEST_ID};
-ghost use Rattle.id_names.specs.Names.{is_id};
+ghost use Rattle.std.specs.Prelude.{ℕ, ◌≡◌, ◌<◌, ◌≤◌, ◌+◌, ◌*◌, length};
 ghost use Rattle.scratch_region.specs.Numbers.{numbers_of};
 ghost use Rattle.code_tour.specs.Passed.{IsPassed};
 ghost use Rattle.code_tour.specs.Tour.{code_in, position_of};
@@ -18,7 +16,7 @@ use crate::ends::{end_at, put_next, put_sides};
 use bit_words::Steps;
 use code_tour::{Passed, Tour};
 use id_names::NamesView;
-use navigate::face_in;
+use navigate::{face_in, number_with};
 use pemb_file::Served;
 use scratch_region::Numbers;
 use std::sync::ledger::Ledger;
@@ -33,17 +31,6 @@ pub(crate) struct Behind {
     first: SignedNumber,
     /// The end whose signed edge the one at the next position of the component follows on its ring.
     end: usize,
-}
-
-/// An edge's id with a direction: below zero backward.
-fn with_direction(id: IdNumber, forward: bool) -> SignedNumber
-    requires { IsTrue (is_id (LARGEST_ID + 1) id) }
-    ensures { result ≡ (if forward then pos id else neg_ℤ (pos id)) }
-{
-    let Ok(number) = SignedNumber::try_from(id) else {
-        unreachable!()
-    };
-    if forward { number } else { -number }
 }
 
 /// The place of the face on the left of a position: 0 for face 0, and else 1 + the number of the face.
@@ -101,7 +88,7 @@ fn put_position<C: Ledger>(
     put_sides(ends, end_at(place, forward), node, face);
     Behind {
         component: passed.component,
-        first: with_direction(edges.id_at(place, steps), forward),
+        first: number_with(edges.id_at(place, steps), forward),
         end: end_at(place, forward == passed.tree),
     }
 }

@@ -1,7 +1,6 @@
 //! Lawful files, opened.
 
 ghost use Rattle.std.specs.Prelude.{◌≡◌, ◌≤◌, ◌<◌, ◌+◌, ◌*◌, IfOk, IsTrue, length};
-ghost use Rattle.scratch_region.specs.Marks.{IsEmpty, room_of};
 ghost use Rattle.plane_model.specs.PlaneMap.{map_of};
 ghost use Rattle.file_laws.specs.Lawful.{is_lawful, map_of_file};
 ghost use Rattle.pemb_file.specs.Served.{contents_of_view};
@@ -10,7 +9,6 @@ ghost use Rattle.topo_cli.specs.Outcome.{words_to_open};
 
 use bit_words::Steps;
 use pemb_file::{Served, open};
-use scratch_region::{Marks, Region};
 use std::alloc::{AllocError, Global};
 use std::sync::ledger::Ledger;
 
@@ -33,17 +31,4 @@ pub fn words_for_marks(alloc: Global, served: &Served<'_>) -> Result<Vec<u64>, A
     ensures few { IfOk result (λ words. length words.items ≤ 2147483647) }
 {
     vec![in alloc; 0; served.counts().faces as usize / 64 + 1]
-}
-
-/// All bits of these words as marks.
-pub fn marks_over<'r>(words: &'r mut [u64]) -> Marks<'r>
-    requires few { length words.old ≤ 2147483647 }
-    ensures room { room_of result ≡ 64 * length words.old }
-    ensures empty { IsEmpty result }
-{
-    let all = words.len();
-    match Region::new(words).carve(all) {
-        Ok((marks, _rest)) => marks,
-        Err(_) => unreachable!(),
-    }
 }

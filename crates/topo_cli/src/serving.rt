@@ -4,11 +4,12 @@ ghost use Rattle.navigate.specs.Bound.{served_map};
 ghost use Rattle.topo_cli.specs.Call.{sink_call, source_call};
 ghost use Rattle.topo_cli.specs.Serving.{IsServedAs};
 
-use crate::image::{marks_over, words_for_marks};
+use crate::image::words_for_marks;
 use crate::status::Status;
 use bit_words::Steps;
 use pemb_file::Served;
 use ports::{Sink, Source};
+use scratch_region::Marks;
 use std::alloc::Global;
 use std::sync::ledger::Ledger;
 use topo_serve::{ServeFault, serve};
@@ -28,7 +29,7 @@ pub fn serve_script<S: Source, K: Sink, L: Ledger>(
         Ok(words) => words,
         Err(_) => return Status::Memory,
     };
-    let mut marks = marks_over(&mut words);
+    let mut marks = Marks::none(&mut words);
     match serve(served, &mut marks, script, out, steps) {
         Ok(()) => Status::Done,
         Err(ServeFault::ReadFault) => Status::ReadFault,

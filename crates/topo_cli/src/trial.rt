@@ -10,13 +10,14 @@ ghost use Rattle.topo_cli.specs.Text.{trial_text};
 ghost use Rattle.map_maker.specs.Grid.{grid_of};
 
 use crate::counting::{line_of_counts, line_of_number};
-use crate::image::{marks_over, words_for_marks};
+use crate::image::words_for_marks;
 use crate::load::LoadFault;
 use bit_words::Steps;
 use map_build::build;
 use map_maker::grid;
 use map_totals::{Totals, totals};
 use pemb_file::Served;
+use scratch_region::Marks;
 use std::alloc::{AllocError, Global};
 use std::sync::ledger::Ledger;
 
@@ -70,7 +71,7 @@ pub fn trial_lines<L: Ledger>(
     ensures grows { steps.old ≤ steps.new }
 {
     let mut words = words_for_marks(alloc, &served)?;
-    let mut marks = marks_over(&mut words);
+    let mut marks = Marks::none(&mut words);
     let sums = totals(served, &mut marks, steps);
     text_of(alloc, size, &served, sums)
 }

@@ -26,7 +26,7 @@ use Rattle.turan_code.specs.Numbering.{Passes, AreEnclosing, HaveBegun, IsGap, A
 use Rattle.turan_code.proofs.Views.{place_lt}
 
 -- a list has one last number, or none
-one_last : (xs : List ℕ) (o r : Option ℕ) → IsLastOf xs o → IsLastOf xs r → o ≡ r
+pub one_last : (xs : List ℕ) (o r : Option ℕ) → IsLastOf xs o → IsLastOf xs r → o ≡ r
 one_last xs None None h k = refl
 one_last xs None (Some y) h k = absurd (omega (arith, ap length (sym h ∙ k.1), length_push k.0 y))
 one_last xs (Some x) None h k = absurd (omega (arith, ap length (sym k ∙ h.1), length_push h.0 x))

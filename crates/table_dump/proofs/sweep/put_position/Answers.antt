@@ -44,8 +44,8 @@ end_at-requires g c =
     let many = ap (λ (xs : List ℕ). length xs) c.requires.edges in
     omega (arith, few, many, c.rank_of-place.ensures.within)
 
-pub with_direction-requires : goal.with_direction-requires
-with_direction-requires g c =
+pub number_with-requires : goal.number_with-requires
+number_with-requires g c =
     let m = contents_of_view c.args.served in
     let at = c.requires.passed in
     let edge = c.args.passed.edge in
@@ -72,7 +72,7 @@ returns-clause-put g c = λ p l numbers.
     let node = c.id_of-node.ensures.id ∙ ap (λ (xs : List ℕ). slice_index xs c.args.passed.node) c.nodes.ensures ∙ ap (slice_index m.nodes) numbers.node in
     let face = c.face_beside-face.ensures.face p numbers in
     let before = numbers_of c.args.ends.now in
-    let f : SFits w64 c.with_direction.result = search rules in
+    let f : SFits w64 c.number_with.result = search rules in
     record {
       ends =
           c.put_sides.ensures
@@ -80,7 +80,7 @@ returns-clause-put g c = λ p l numbers.
           ∙ ap (λ x. with_sides before (end_of m edges p) x c.face_beside-face.result) node
           ∙ ap (λ x. with_sides before (end_of m edges p) (node_at m p) x) face;
       component = numbers.component;
-      first = to_z-of_z f ∙ edge_is m p edge c.id_at.result c.args.passed.first c.forward.result c.with_direction.result numbers.edge id numbers.first c.forward.ensures.forward c.with_direction.ensures;
+      first = to_z-of_z f ∙ edge_is m p edge c.id_at.result c.args.passed.first c.forward.result c.number_with.result numbers.edge id numbers.first c.forward.ensures.forward c.number_with.ensures;
       end = c.end_at-2.ensures.end ∙ followed_there m parts edges c.requires.edges p edge c.rank_of-place.result _ c.args.passed.tree l numbers.edge c.rank_of-place.ensures.place side numbers.tree;
     }
 
