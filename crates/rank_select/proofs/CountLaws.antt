@@ -127,8 +127,8 @@ stride_cost start steps first stride end some doubled below = omega (arith, digi
 pub ruleset strides = (rank_blocks, rank-zero, digits-double, some_block)
 
 -- the product that a share is taken of
-pub product_fits : (count len : ℕ) → count ≤ len → len ≤ 2147483647 → count * len ≤ 2147483647 * 2147483647
-product_fits count len h l = mul-le count len 2147483647 2147483647 (omega arith) l
+pub product_fits : (count len coarse : ℕ) → count ≤ len → len ≤ 2147483647 → count / 2 ^ coarse * blocks len ≤ 2147483647 * 4194304
+product_fits count len coarse h l = mul-le (count / 2 ^ coarse) (blocks len) 2147483647 4194304 (omega arith) (omega arith)
 
 pub ruleset shares = (product_fits)
 

@@ -10,6 +10,9 @@ use crate::counts::{count_at, ones_in_words};
 use bit_words::{BitView, PackedView, Steps, ones_below, place_of_one};
 use std::sync::ledger::Ledger;
 
+/// How many binary digits of a count are enough for a share of the blocks: so few that its division is a short one.
+const SHARE_DIGITS: u32 = 16;
+
 /// The place of the one that has `j` ones below it, where the word has more than `j` ones.
 #[inline]
 fn place_below(word: u64, j: u32) -> u32
@@ -41,7 +44,7 @@ pub struct RankView<'a> {
 }
 
 impl<'a> RankView<'a> {
-    ghost use Rattle.std.specs.Prelude.{◌≡◌, ◌<◌, ◌≤◌, ◌+◌, ◌-◌, ◌*◌, ◌/◌, ◌^◌, ◌==◌, length, min, true, false};
+    ghost use Rattle.std.specs.Prelude.{◌≡◌, ◌<◌, ◌≤◌, ◌+◌, ◌-◌, ◌*◌, ◌/◌, ◌^◌, ◌==◌, length, min, max, true, false};
     ghost use Rattle.bit_words.specs.BitView.{bits_of};
     ghost use Rattle.bit_words.specs.PackedView.{fields_of, width_of};
     ghost use Rattle.bit_words.specs.Bits.{rank, IsSelected};
@@ -114,17 +117,18 @@ impl<'a> RankView<'a> {
     }
 
     /// About how many blocks have `count` bits of a kind, where all blocks have `all` of it, and fewer than there are.
+    /// Both counts are taken without their lowest `coarse` digits.
     #[inline]
     #[tactic(auto, using(crate::proofs::CountLaws::shares))]
-    fn blocks_for(&self, count: usize, all: usize) -> usize
-        requires some { 0 < all }
+    fn blocks_for(&self, count: usize, all: usize, coarse: u32) -> usize
+        requires coarse { coarse ≤ 48 }
         requires few { count ≤ length (counted self.now) }
         requires blocks { 0 < length (counted self.now) }
-        ensures share { result ≡ min (count * length (counted self.now) / all / 512)
+        ensures share { result ≡ min (count / 2 ^ coarse * blocks (length (counted self.now)) / max (all / 2 ^ coarse) 1)
             (blocks (length (counted self.now)) - 1) }
     {
-        let len = self.bits.len();
-        (count * len / all / 512).min(len.div_ceil(512) - 1)
+        let blocks = self.bits.len().div_ceil(512);
+        ((count >> coarse) * blocks / (all >> coarse).max(1)).min(blocks - 1)
     }
 
     /// A bracket of the block of bit `j` of this kind, from block `block` upward by strides that double.
@@ -275,15 +279,16 @@ impl<'a> RankView<'a> {
         ensures grows { steps.old ≤ steps.new }
         ensures cost { steps.new ≤ steps.old + digits (blocks (length (counted self.now))) + 2 }
     {
-        let block = self.blocks_for(j, all);
+        let coarse = (usize::BITS - all.leading_zeros()).saturating_sub(SHARE_DIGITS);
+        let block = self.blocks_for(j, all, coarse);
         let before = self.kind_before(kind, block, steps);
-        let away = self.blocks_for(j.abs_diff(before), all);
+        let away = self.blocks_for(j.abs_diff(before), all, coarse);
         if away == 0 {
             return self.bracket_from(kind, j, block, before, 1, steps);
         }
         let nearer = self.moved_block(block, before, j, away);
         let before = self.kind_before(kind, nearer, steps);
-        let first = self.blocks_for(j.abs_diff(before), all) + 1;
+        let first = self.blocks_for(j.abs_diff(before), all, coarse) + 1;
         self.bracket_from(kind, j, nearer, before, first, steps)
     }
 
