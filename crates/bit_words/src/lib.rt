@@ -1,8 +1,9 @@
 //! Words, bits and packed numbers over borrowed bytes, with a count of the words read.
 //!
-//! A step is one call of `WordView::word`. The view keeps its bytes to itself, `Steps` has no other call that raises
-//! it, and a new counter asks for the allocator. So whoever holds views and a counter, and no allocator, reads no word
-//! that this counter doesn't count.
+//! A step is one word that a `WordView` gives bits of: `word` gives one word, and `bits_from` bits of one or of two.
+//! It loads them with eight bytes at once, and cuts off what is of a word beside. The view keeps its bytes to itself,
+//! `Steps` has no other call that raises it, and a new counter asks for the allocator. So whoever holds views and a
+//! counter, and no allocator, gets bits of no word that this counter doesn't count.
 #![tactic(auto)]
 
 mod bit_maker;

@@ -70,6 +70,24 @@ impl<'a> PackedView<'a> {
         ensures some_steps { steps.old + 1 ≤ steps.new }
         ensures few_steps { steps.new ≤ steps.old + 2 }
     {
+        if self.width <= 57 {
+            let from = i * self.width as usize;
+            self.words.bits_from(from, self.width, steps)
+        } else {
+            self.wide_field(i, steps)
+        }
+    }
+
+    /// Number `i` of any width, from the one word or the two that it stands in, read one by one.
+    #[inline]
+    fn wide_field<C: Ledger>(&self, i: usize, steps: &mut Steps<C>) -> u64
+        requires { i < length (fields_of self.now) }
+        ensures field { result ≡ slice_index (fields_of self.now) i }
+        ensures one_word { i * width_of self.now % 64 + width_of self.now ≤ 64 → steps.new ≡ steps.old + 1 }
+        ensures two_words { 64 < i * width_of self.now % 64 + width_of self.now → steps.new ≡ steps.old + 2 }
+        ensures some_steps { steps.old + 1 ≤ steps.new }
+        ensures few_steps { steps.new ≤ steps.old + 2 }
+    {
         let from = i * self.width as usize;
         let place = (from % 64) as u32;
         let low = self.words.word(from / 64, steps) >> place;

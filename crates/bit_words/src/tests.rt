@@ -147,7 +147,7 @@ fn numbers_of_each_width_straddle_a_word(rt: HostRuntime) {
     let bytes = [
         1, 35, 69, 103, 137, 171, 205, 239, 16, 50, 84, 118, 152, 186, 220, 254,
     ];
-    let rows: [(u16, u32, usize, u64); 57] = [
+    let rows: [(u16, u32, usize, u64); 60] = [
         (42, 3, 21, 1),
         (25, 5, 12, 14),
         (21, 6, 10, 14),
@@ -205,6 +205,10 @@ fn numbers_of_each_width_straddle_a_word(rt: HostRuntime) {
         (2, 61, 1, 1649958775481798791),
         (2, 62, 1, 4283743901561440323),
         (2, 63, 1, 9059400978421802017),
+        // These end with the bytes, or near their end.
+        (16, 8, 15, 254),
+        (4, 32, 3, 4275878552),
+        (9, 14, 8, 16092),
     ];
     for (count, width, i, want) in rows {
         assert_eq!(rt;

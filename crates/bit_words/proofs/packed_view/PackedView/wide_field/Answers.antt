@@ -2,8 +2,8 @@ use Rattle.std.proofs.Common.{◌≡◌, ◌%◌, ◌^◌, ◌*◌, sym, ◌∙�
 use Rattle.bit_words.specs.Bits.{field_at}
 use Rattle.bit_words.specs.WordView.{words_of}
 use Rattle.bit_words.proofs.Streams.{value_one, value_two, get_or-fields_in, length-fields_in}
-use Rattle.bit_words.proofs.packed_view.PackedView.field.Goals as goal
-use Rattle.bit_words.proofs.packed_view.PackedView.field.Goals.{then-self-room, else-self-room}
+use Rattle.bit_words.proofs.packed_view.PackedView.wide_field.Goals as goal
+use Rattle.bit_words.proofs.packed_view.PackedView.wide_field.Goals.{then-self-room, else-self-room}
 
 pub returns-clause-field : goal.returns-clause-field
 returns-clause-field g c =
