@@ -50,8 +50,8 @@ pub fn edge_at<C: Ledger>(served: Served<'_>, p: usize, steps: &mut Steps<C>) ->
     ensures cost { steps.new ≤ steps.old + (7 * line_digits (contents_of_view served.entry) + 93) }
 {
     let code = served.code();
-    let edge = code.edge_of(p, steps) as usize;
-    let is_first = code.is_first(p, steps);
+    let (number, is_first) = code.edge_and_side(p, steps);
+    let edge = number as usize;
     let forward = served.forward(edge, steps);
     let edges = served.edges();
     let _count = edges.count();

@@ -433,20 +433,41 @@ impl<'a> TuranView<'a> {
         }
     }
 
-    /// The place that opens the pair of place `place` of one kind.
-    fn opening<C: Ledger>(&self, kind: bool, place: usize, steps: &mut Steps<C>) -> usize
+    /// The place that opens the pair of place `place` of one kind, and whether it is that one.
+    fn opening<C: Ledger>(&self, kind: bool, place: usize, steps: &mut Steps<C>) -> (usize, bool)
         requires { place < length (parens (code_of_view self.now) kind) }
-        ensures opening { result ≡ (if is_open (parens (code_of_view self.now) kind) place then place
+        ensures opening { result.0 ≡ (if is_open (parens (code_of_view self.now) kind) place then place
             else mate_of (parens (code_of_view self.now) kind) place) }
-        ensures within { result < length (parens (code_of_view self.now) kind) }
+        ensures open { result.1 ≡ is_open (parens (code_of_view self.now) kind) place }
+        ensures within { result.0 < length (parens (code_of_view self.now) kind) }
         ensures some_steps { steps.old + 1 ≤ steps.new }
         ensures cost { steps.new ≤ steps.old + 4 * digits (length (code_of_view self.now).a + 2) + 42 }
     {
         let parens = self.parens(kind);
         if parens.is_open(place, steps) {
-            place
+            (place, true)
         } else {
-            parens.mate(place, steps)
+            (parens.mate(place, steps), false)
+        }
+    }
+
+    /// The number of the edge at position `p`, as `edge_of` tells it, and whether `p` is the first of its edge.
+    pub fn edge_and_side<C: Ledger>(&self, p: usize, steps: &mut Steps<C>) -> (u32, bool)
+        requires { p < length (code_of_view self.now).a }
+        ensures edge { result.0 ≡ edge_of (code_of_view self.now) p }
+        ensures within { result.0 < edge_count (code_of_view self.now) }
+        ensures first { result.1 ≡ is_first (code_of_view self.now) p }
+        ensures some_steps { steps.old + 1 ≤ steps.new }
+        ensures cost { steps.new ≤ steps.old + 4 * digits (length (code_of_view self.now).a + 2) + 61 }
+    {
+        let kind = self.is_tree(p, steps);
+        let place = self.place_of(kind, p, steps);
+        let (opening, is_first) = self.opening(kind, place, steps);
+        let pair = self.parens(kind).opens_before(opening, steps);
+        if kind {
+            (pair as u32, is_first)
+        } else {
+            ((self.tree_edges() + pair) as u32, is_first)
         }
     }
 
@@ -459,15 +480,8 @@ impl<'a> TuranView<'a> {
         ensures some_steps { steps.old + 1 ≤ steps.new }
         ensures cost { steps.new ≤ steps.old + 4 * digits (length (code_of_view self.now).a + 2) + 61 }
     {
-        let kind = self.is_tree(p, steps);
-        let place = self.place_of(kind, p, steps);
-        let opening = self.opening(kind, place, steps);
-        let pair = self.parens(kind).opens_before(opening, steps);
-        if kind {
-            pair as u32
-        } else {
-            (self.tree_edges() + pair) as u32
-        }
+        let (edge, _is_first) = self.edge_and_side(p, steps);
+        edge
     }
 
     /// The first position of an edge, or None where no edge has the number.
