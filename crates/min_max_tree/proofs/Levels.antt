@@ -1,9 +1,11 @@
 -- laws of a level's numbers, as code keeps them
 use Rattle.std.specs.Prelude.{pos, ◌+ℤ◌, ◌-ℤ◌, ◌<ℤ◌, ◌≤ℤ◌}
-use Rattle.std.proofs.Common.{◌≡◌, ℕ, zero, suc, ◌+◌, ◌-◌, ◌*◌, ◌/◌, ◌<◌, ◌≤◌, Bool, List, length, refl, ap, sym, ◌∙◌, arith, ⊎_elim, subst, add-one}
+use Rattle.std.proofs.Common.{◌≡◌, ℕ, zero, suc, ◌+◌, ◌-◌, ◌*◌, ◌/◌, ◌^◌, ◌<◌, ◌≤◌, Bool, List, length, refl, ap, sym, ◌∙◌, arith, ⊎_elim, subst, add-one}
 use Rattle.std.proofs.lemmas.Bool.{cases_lt}
 use Rattle.std.proofs.lemmas.Int.{ints}
+use Rattle.std.proofs.lemmas.Nat.{pow-add}
 use Rattle.std.proofs.Math.Nat.{mul-le-mul_right}
+use Rattle.std.proofs.Math.Pow.{pow_mono}
 use Rattle.bit_words.specs.Bits.{excess}
 use Rattle.min_max_tree.specs.Search.{Rests}
 use Rattle.min_max_tree.specs.Tree.{span_at, size_at, start_at, node_from, node_to, least, total_of, least_of}
@@ -15,6 +17,13 @@ use Rattle.min_max_tree.proofs.Nodes.{span-pos, span-up, node-there, there-node,
 pub size-is : (len span h : ℕ) → span ≡ span_at h → (len + (span - 1)) / span ≡ size_at len h
 unfolding size_at
 size-is len span h e = rw e refl
+
+-- the same by a shift
+pub size-shifted : (len span h k : ℕ) → span ≡ span_at h → k ≡ 9 + h → (len + (span - 1)) / 2 ^ k ≡ size_at len h
+unfolding span_at
+size-shifted len span h k e f =
+    let p : 2 ^ k ≡ span = ap (λ x. 2 ^ x) f ∙ pow-add 2 9 h ∙ sym e in
+    ap (λ x. (len + (span - 1)) / x) p ∙ size-is len span h e
 
 pub size-le : (len h : ℕ) → size_at len h ≤ len
 size-le len h =
@@ -88,7 +97,7 @@ half-span span h k e f =
     let a : span ≡ span_at (k + 1) = e ∙ ap span_at (sym f) in
     omega arith
 
-pub ruleset level_laws = (size-is, span-pos, start-le, span-bound, height-small, IsLevel-lowest, IsLevel-above, IsLevel-below, half-span, size-le)
+pub ruleset level_laws = (size-is, size-shifted, span-pos, start-le, span-bound, height-small, IsLevel-lowest, IsLevel-above, IsLevel-below, half-span, size-le)
 
 pub span-le : (len h : ℕ) → ((g : ℕ) → g < h → 1 < size_at len g) → span_at h ≤ 2 * len + 512
 span-le len zero reached = omega (arith, span-zero)
@@ -98,12 +107,23 @@ span-le len (suc g) reached =
     let e : span_at (g + 1) ≡ span_at (suc g) = ap span_at (add-one g) in
     omega arith
 
-pub start-falls : (len span start h : ℕ) → 0 < h → span ≡ span_at h → start ≡ start_at len h → ((len + (span / 2 - 1)) / (span / 2) ≡ size_at len (h - 1)) × ((len + (span / 2 - 1)) / (span / 2) ≤ start)
+-- levels are few, so that a shift by one's height is none too far
+pub height-few : (len h : ℕ) → len ≤ 2147483647 → ((g : ℕ) → g < h → 1 < size_at len g) → h < 24
+unfolding span_at
+height-few len h few reached =
+    ⊎_elim
+    (λ (p : h < 24). p)
+    (λ (p : 24 ≤ h).
+    let more : 2 ^ 24 ≤ 2 ^ h = pow_mono p in
+    absurd (omega (arith, span-le len h reached, more)))
+    (cases_lt h 24)
+
+pub start-falls : (len span start h : ℕ) → 0 < h → span ≡ span_at h → start ≡ start_at len h → ((len + (span / 2 - 1)) / 2 ^ (8 + h) ≡ size_at len (h - 1)) × ((len + (span / 2 - 1)) / 2 ^ (8 + h) ≤ start)
 start-falls len span start h p e f =
     let k = h - 1 in
     let q : k + 1 ≡ h = omega arith in
     let a = half-span span h k e q in
-    let s = size-is len (span / 2) k a in
+    let s = size-shifted len (span / 2) k (8 + h) a (omega arith) in
     let u = start-up len k in
     let v : start ≡ start_at len (k + 1) = f ∙ ap (start_at len) (sym q) in
     (s, omega arith)

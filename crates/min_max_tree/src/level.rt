@@ -1,4 +1,4 @@
-//! Levels of the tree: their heights, and where their nodes stand.
+//! Levels of the tree: their heights, and where their nodes stand. Spans are powers of two, so that sizes are shifts.
 
 /// The nodes of one height.
 #[derive(Clone, Copy)]
@@ -32,7 +32,7 @@ impl Level {
         requires few { len ≤ 2147483647 }
         ensures { result ≡ size_at len self.now.height }
     {
-        (len + (self.span - 1)) / self.span
+        (len + (self.span - 1)) >> (9 + self.height)
     }
 
     #[tactic(auto, using(crate::proofs::Levels::level_laws))]
@@ -62,7 +62,7 @@ impl Level {
         Level {
             height: self.height - 1,
             span,
-            start: self.start - (len + (span - 1)) / span,
+            start: self.start - ((len + (span - 1)) >> (8 + self.height)),
         }
     }
 }
