@@ -1,4 +1,5 @@
 pub mod TuranView
+pub mod Seen
 pub mod Sequences
 pub mod CodeWords
 pub mod Numbering

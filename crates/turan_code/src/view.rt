@@ -26,6 +26,32 @@ pub struct TuranParts<'a> {
     pub starts: PackedView<'a>,
 }
 
+/// What stands at a position of a walk round a node or a ring, and where the walk goes on.
+#[derive(Clone, Copy)]
+pub struct Stop {
+    /// The number of the edge.
+    pub edge: u32,
+    /// Whether this is the edge's first position.
+    pub is_first: bool,
+    /// The next position.
+    pub next: usize,
+}
+
+/// What is found of a position's edge.
+#[derive(Clone, Copy)]
+pub(crate) struct Seen {
+    /// Whether it is one of the trees.
+    tree: bool,
+    /// The position's place among the parentheses of its kind.
+    place: usize,
+    /// The place that opens its pair.
+    opening: usize,
+    /// Whether that is the position's own.
+    is_first: bool,
+    /// The number of the edge.
+    edge: u32,
+}
+
 /// A sound code: a plane map without its ids, with one position for each signed edge.
 #[derive(Clone, Copy)]
 pub struct TuranView<'a> {
@@ -44,6 +70,7 @@ impl<'a> TuranView<'a> {
     ghost use Rattle.code_laws.specs.Numbers.{tree_edges, edge_of, node_of, ring_of, enclosing_pair, first_of_edge, first_of_node, first_of_shell, opening_position, one_on, edge_count, node_count, shell_count, has_ring};
     ghost use Rattle.code_laws.specs.SeqFault.{is_sound};
     ghost use Rattle.turan_code.specs.TuranView.{code_of_parts, code_of_view};
+    ghost use Rattle.turan_code.specs.Seen.{IsSeen};
 
     /// The code of these parts, which `check` finds sound. No word is read.
     pub fn new(parts: TuranParts<'a>) -> TuranView<'a>
@@ -451,6 +478,40 @@ impl<'a> TuranView<'a> {
         }
     }
 
+    /// The number of the edge of a pair of one kind.
+    fn edge_number(&self, kind: bool, pair: usize) -> u32
+        requires tree { kind ≡ true → pair ≤ 4294967295 }
+        requires other { kind ≡ false → tree_edges (code_of_view self.now) + pair ≤ 4294967295 }
+        ensures { result ≡ (if kind then pair else tree_edges (code_of_view self.now) + pair) }
+    {
+        if kind {
+            pair as u32
+        } else {
+            (self.tree_edges() + pair) as u32
+        }
+    }
+
+    /// A position, with what is found of its edge.
+    fn see<C: Ledger>(&self, p: usize, steps: &mut Steps<C>) -> Seen
+        requires { p < length (code_of_view self.now).a }
+        ensures seen { IsSeen (code_of_view self.now) p result }
+        ensures some_steps { steps.old + 1 ≤ steps.new }
+        ensures cost { steps.new ≤ steps.old + 4 * digits (length (code_of_view self.now).a + 2) + 61 }
+    {
+        let tree = self.is_tree(p, steps);
+        let place = self.place_of(tree, p, steps);
+        let (opening, is_first) = self.opening(tree, place, steps);
+        let pair = self.parens(tree).opens_before(opening, steps);
+        let edge = self.edge_number(tree, pair);
+        Seen {
+            tree,
+            place,
+            opening,
+            is_first,
+            edge,
+        }
+    }
+
     /// The number of the edge at position `p`, as `edge_of` tells it, and whether `p` is the first of its edge.
     pub fn edge_and_side<C: Ledger>(&self, p: usize, steps: &mut Steps<C>) -> (u32, bool)
         requires { p < length (code_of_view self.now).a }
@@ -460,14 +521,53 @@ impl<'a> TuranView<'a> {
         ensures some_steps { steps.old + 1 ≤ steps.new }
         ensures cost { steps.new ≤ steps.old + 4 * digits (length (code_of_view self.now).a + 2) + 61 }
     {
-        let kind = self.is_tree(p, steps);
-        let place = self.place_of(kind, p, steps);
-        let (opening, is_first) = self.opening(kind, place, steps);
-        let pair = self.parens(kind).opens_before(opening, steps);
-        if kind {
-            (pair as u32, is_first)
+        let seen = self.see(p, steps);
+        (seen.edge, seen.is_first)
+    }
+
+    /// The mate of position `p`, of which this was seen.
+    fn mate_of_seen<C: Ledger>(&self, p: usize, seen: Seen, steps: &mut Steps<C>) -> usize
+        requires within { p < length (code_of_view self.now).a }
+        requires seen { IsSeen (code_of_view self.now) p seen }
+        ensures mate { result ≡ mate (code_of_view self.now) p }
+        ensures within { result < length (code_of_view self.now).a }
+        ensures some_steps { steps.old + 1 ≤ steps.new }
+        ensures cost { steps.new ≤ steps.old + 7 * digits (length (code_of_view self.now).a + 2) + 51 }
+    {
+        let _own = p;
+        let mate = if seen.is_first {
+            self.parens(seen.tree).mate(seen.place, steps)
         } else {
-            ((self.tree_edges() + pair) as u32, is_first)
+            seen.opening
+        };
+        match self.position(seen.tree, mate, steps) {
+            Some(position) => position,
+            None => unreachable!(),
+        }
+    }
+
+    /// The edge at position `p`, and the next position of its orbit: round its node where `kind` is true, else round
+    /// its ring.
+    pub fn stop<C: Ledger>(&self, kind: bool, p: usize, steps: &mut Steps<C>) -> Stop
+        requires { p < length (code_of_view self.now).a }
+        ensures edge { result.edge ≡ edge_of (code_of_view self.now) p }
+        ensures edge_within { result.edge < edge_count (code_of_view self.now) }
+        ensures first { result.is_first ≡ is_first (code_of_view self.now) p }
+        ensures next { result.next ≡ step (code_of_view self.now) kind p }
+        ensures within { result.next < length (code_of_view self.now).a }
+        ensures some_steps { steps.old + 1 ≤ steps.new }
+        ensures cost { steps.new ≤ steps.old + 13 * digits (length (code_of_view self.now).a + 2) + 116 }
+    {
+        let seen = self.see(p, steps);
+        let over = if seen.tree == kind {
+            self.mate_of_seen(p, seen, steps)
+        } else {
+            p
+        };
+        Stop {
+            edge: seen.edge,
+            is_first: seen.is_first,
+            next: self.after(over, steps),
         }
     }
 
