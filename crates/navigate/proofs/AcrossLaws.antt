@@ -1,5 +1,5 @@
 -- The faces across the edges of a face, by places and by ids, and what their walk reads.
-use Rattle.std.specs.Prelude.{not, map, ◌==◌}
+use Rattle.std.specs.Prelude.{not, map, take, ◌==◌}
 use Rattle.std.proofs.Common.{◌≡◌, ℕ, ◌+◌, ◌*◌, ◌<◌, ◌≤◌, inl, inr, true, List, [], ◌∷◌, length, refl, ap, sym, ◌∙◌, arith}
 use Rattle.std.proofs.lemmas.Bool.{cases_lt, eqb-true, eq-eqb, or_cases, or_left, or_right}
 use Rattle.std.proofs.Math.Nat.{mul-le-mul_left}
@@ -25,7 +25,7 @@ use Rattle.navigate.specs.AdjacentWalk.{step_price}
 use Rattle.navigate.proofs.Facts.{w, sound_code}
 use Rattle.navigate.proofs.HoleLaws.{one_place}
 use Rattle.navigate.proofs.OrbitLengths.{some_digits}
-use Rattle.navigate.proofs.StandingLaws.{occurrences-among, filter-among}
+use Rattle.navigate.proofs.StandingLaws.{occurrences-among, filter-among, given_across}
 use Rattle.navigate.proofs.Occurrences.{occurrences-apart, few_below, others-named, occurrences-named}
 
 digits-four : digits 4 ≡ 3
@@ -76,6 +76,10 @@ module _ (c : Contents) (h : is_whole c ≡ true) where
   few_places place ps within =
       let xs = others place (map (place_across c) ps) in
       few_below (first_occurrences xs) (length c.faces) (occurrences-apart [] xs) (λ y there. others-low place ps within y (occurrences-among [] xs y there))
+
+  -- those that were given
+  pub given_low : (place count : ℕ) (ps : List ℕ) → ((x : ℕ) → has ps x ≡ true → x < length c.code.a) → (y : ℕ) → has (take count (adjacent_places c place ps)) y ≡ true → y ≤ length c.faces
+  given_low place count ps within y there = places-low ps within y (given_across c place ps count y there)
 
   -- by ids they are the faces that the map has across the edges of the face
   pub adjacent_named : (place f : ℕ) (ps : List ℕ) → place ≤ length c.faces → face_at_place c place ≡ f → ((x : ℕ) → has ps x ≡ true → x < length c.code.a) → map (signed_at c) ps ≡ face_edges m (face_at_place c place)

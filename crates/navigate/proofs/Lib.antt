@@ -18,3 +18,4 @@ pub mod StandingLaws
 pub mod Occurrences
 pub mod WithinLaws
 pub mod AcrossLaws
+pub mod ClearLaws

@@ -148,25 +148,6 @@ pub given_across : (m : Contents) (f : ℕ) (all : List ℕ) (count j : ℕ) →
 given_across m f all count j h =
     filter-among (λ g. not (g == f)) (map (place_across m) all) j (occurrences-among [] (others f (map (place_across m) all)) j (take-among count (adjacent_places m f all) j h))
 
--- a mark less
-pub ahead_next : (m : Contents) (xs mid : List ℕ) (p face j : ℕ) (old new : Bool) → xs ≡ p ∷ mid → face ≡ place_across m p → new ≡ (if j == face then false else old) → (old ≡ true → has (map (place_across m) xs) j ≡ true)
-    → new ≡ true → has (map (place_across m) mid) j ≡ true
-ahead_next m xs mid p face j old new e f n h t =
-    elim (cases_Bool (j == face)) [
-      | inl w ↦ let off : new ≡ false = n ∙ rw w refl in cc
-      | inr o ↦
-          let on : old ≡ true = sym (n ∙ rw o refl) ∙ t in
-          let at : ((j == face) || has (map (place_across m) mid) j) ≡ true = subst (λ x. ((j == x) || has (map (place_across m) mid) j) ≡ true) (sym f) (ap (λ ys. has (map (place_across m) ys) j) (sym e) ∙ h on) in
-          sym (ap (λ b. b || has (map (place_across m) mid) j) o) ∙ at
-    ]
-
-pub ahead_end : (m : Contents) (xs : List ℕ) (j : ℕ) (b : Bool) → xs ≡ [] → (b ≡ true → has (map (place_across m) xs) j ≡ true) → b ≡ false
-ahead_end m xs j b e h =
-    elim (cases_Bool b) [
-      | inl w ↦ let no : false ≡ true = ap (λ ys. has (map (place_across m) ys) j) (sym e) ∙ h w in cc
-      | inr o ↦ o
-    ]
-
 -- the price of a step
 pub step_paid : (m : Contents) (xs mid left : List ℕ) (p first second third last : ℕ) → xs ≡ p ∷ mid → length left ≤ length mid → second ≤ first + (9 * line_digits m + 71) → third ≤ second + (3 * line_digits m + 20)
     → last + pass_price m * length left ≤ third + (pass_price m * length mid + (13 * line_digits m + 123)) → last + step_price m * length left ≤ first + step_price m * length xs

@@ -1,8 +1,13 @@
 //! The walk to the faces across the edges of a face, step by step.
 
-ghost use Rattle.std.specs.Prelude.{◌≡◌};
+ghost use Rattle.std.specs.Prelude.{◌≡◌, ◌<◌, ◌≤◌, ◌+◌, ◌*◌, ◌&&◌, ℕ, not, true, map, take, length, slice_set};
+ghost use Rattle.scratch_region.specs.Marks.{room_of, is_marked};
+ghost use Rattle.plane_model.specs.Sets.{has};
+ghost use Rattle.navigate.specs.Beside.{place_across, adjacent_places};
 ghost use Rattle.navigate.specs.FaceWalk as rings;
+ghost use Rattle.navigate.specs.FaceWalk.{pass_price};
 ghost use Rattle.navigate.specs.Standing.{IsStanding};
+ghost use Rattle.navigate.specs.declared.across.TheConstants.{KEPT};
 
 use crate::face_rings::FaceWalk;
 use crate::unseen::to_unseen;
@@ -10,6 +15,9 @@ use bit_words::Steps;
 use scratch_region::Marks;
 use std::sync::ledger::Ledger;
 use topo_base::FaceId;
+
+/// So many of the faces that it gives a walk keeps by their places.
+const KEPT: usize = 32;
 
 /// A walk to the other faces across the edges of a face, each where it comes first.
 #[derive(Drop)]
@@ -22,11 +30,15 @@ pub struct AdjacentWalk<'a> {
     left: FaceWalk<'a>,
     /// How many faces were given.
     count: usize,
+    /// The places of the first of them, as many as there is room for.
+    given: [u32; KEPT],
     /// The place of the next face, unless the rings are at their end.
     next: usize,
     ghost same: { rings.contents_in whole ≡ rings.contents_in left },
     ghost standing: { IsStanding (rings.contents_in left) place (rings.face_positions whole)
         (rings.face_positions left) count next },
+    ghost kept: { count ≤ KEPT → take count given
+        ≡ take count (adjacent_places (rings.contents_in left) place (rings.face_positions whole)) },
 }
 
 impl<'a> AdjacentWalk<'a> {
@@ -63,6 +75,7 @@ impl<'a> AdjacentWalk<'a> {
             whole,
             left,
             count: 0,
+            given: [0; KEPT],
             next,
         }
     }
@@ -87,6 +100,7 @@ impl<'a> AdjacentWalk<'a> {
         };
         let next = self.next;
         marks.set(next);
+        enter(&mut self.given, self.count, next as u32);
         let mut left = self.left;
         let _ = left.pass(steps);
         let face = left.face_in(next, steps);
@@ -96,7 +110,8 @@ impl<'a> AdjacentWalk<'a> {
         Some(face)
     }
 
-    /// Takes the marks of the faces given so far away, by going once round the rings.
+    /// Takes the marks of the faces given so far away: by their places where it kept them all, and else by going
+    /// once round the rings.
     pub fn close<C: Ledger>(self, marks: &mut Marks<'_>, steps: &mut Steps<C>)
         requires room { length (contents_in self).faces < room_of marks.old }
         requires marks { HoldsGiven self marks.old }
@@ -105,10 +120,48 @@ impl<'a> AdjacentWalk<'a> {
         ensures grows { steps.old ≤ steps.new }
         ensures paid { steps.new ≤ steps.old + allowance self.entry }
     {
-        let mut rings = self.whole;
-        while let Some(p) = rings.pass(steps) {
-            let place = rings.place_across(p, steps);
-            marks.clear(place);
+        let count = self.count;
+        if count <= KEPT {
+            clear_places(marks, &self.given[..count]);
+        } else {
+            clear_across(self.whole, marks, steps);
         }
+    }
+}
+
+/// Enters a place behind the first ones, where there is room for it.
+fn enter(places: &mut [u32], count: usize, place: u32)
+    ensures { places.new ≡ slice_set places.old count place }
+{
+    if count < places.len() {
+        places[count] = place;
+    }
+}
+
+/// Takes the marks of these places away.
+fn clear_places(marks: &mut Marks<'_>, places: &[u32])
+    requires { (j : ℕ) → has places.now j ≡ true → j < room_of marks.old }
+    ensures room { room_of marks.new ≡ room_of marks.old }
+    ensures marked { (j : ℕ) → is_marked marks.new j ≡ (is_marked marks.old j && not (has places.now j)) }
+{
+    for place in places {
+        marks.clear(*place as usize);
+    }
+}
+
+/// Takes the marks of the faces across the edges of these rings away, by going once round them.
+fn clear_across<C: Ledger>(walk: FaceWalk<'_>, marks: &mut Marks<'_>, steps: &mut Steps<C>)
+    requires room { length (rings.contents_in walk).faces < room_of marks.old }
+    ensures room { room_of marks.new ≡ room_of marks.old }
+    ensures marked { (j : ℕ) → is_marked marks.new j ≡ (is_marked marks.old j
+        && not (has (map (place_across (rings.contents_in walk.entry)) (rings.face_positions walk.entry)) j)) }
+    ensures grows { steps.old ≤ steps.new }
+    ensures paid { steps.new ≤ steps.old
+        + pass_price (rings.contents_in walk.entry) * length (rings.face_positions walk.entry) }
+{
+    let mut rings = walk;
+    while let Some(p) = rings.pass(steps) {
+        let place = rings.place_across(p, steps);
+        marks.clear(place);
     }
 }

@@ -1,54 +1,45 @@
-use Rattle.std.proofs.Common.{refl, arith, sym, ◌∙◌, ap, ◌≡◌, length}
+use Rattle.std.specs.Prelude.{map, take}
+use Rattle.std.proofs.Common.{arith, sym, ◌∙◌, ap, subst, ◌≡◌, ◌<◌, ◌≤◌, ◌*◌, ℕ, true, length}
 use Rattle.scratch_region.specs.Marks.{is_marked}
+use Rattle.plane_model.specs.Sets.{has}
 use Rattle.file_laws.specs.Contents.{Contents}
-use Rattle.navigate.specs.Bound.{line_digits}
 use Rattle.navigate.specs.Beside.{place_across}
 use Rattle.navigate.specs.FaceWalk as rings
-use Rattle.navigate.specs.FaceWalk.{face_positions}
+use Rattle.navigate.specs.FaceWalk.{face_positions, pass_price}
 use Rattle.navigate.specs.AdjacentWalk.{contents_in, allowance}
-use Rattle.navigate.proofs.FaceLaws.{face_cleared_cost}
-use Rattle.navigate.proofs.StandingLaws.{given_across, ahead_next, ahead_end}
+use Rattle.navigate.proofs.WithinLaws.{face-in}
+use Rattle.navigate.proofs.StandingLaws.{given_across}
+use Rattle.navigate.proofs.AcrossLaws.{given_low}
+use Rattle.navigate.proofs.ClearLaws.{fewer_in, none_left}
 use Rattle.navigate.proofs.across.AdjacentWalk.close.Goals as goal
 
-pub loop-p-init : goal.loop-p-init
-loop-p-init g c =
+pub clear_places-requires : goal.clear_places-requires
+clear_places-requires g c = λ j there.
     let v = c.args.self in
     let m = contents_in v in
-    record {
-      same = v.same;
-      room = refl;
-      ahead = λ j h. given_across m v.place (face_positions v.whole) v.count j (sym (c.requires.marks j) ∙ h);
-      grows = omega arith;
-      paid = omega arith;
-    }
+    let all = face_positions v.whole in
+    let within : (x : ℕ) → has all x ≡ true → x < length m.code.a = λ x in_it. subst (λ (y : Contents). x < length y.code.a) v.same (face-in v.whole x in_it) in
+    let kept : has (take v.count v.given) j ≡ true = fewer_in _ v.count v.given j there (omega arith) in
+    let given = ap (λ xs. has xs j) (sym (v.kept c.if-count-le-KEPT.true)) ∙ kept in
+    omega (arith, given_low m v.left.served.whole v.place v.count all within j given, c.requires.room)
 
-pub clear-requires : goal.clear-requires
-clear-requires g c =
-    let i = c.loop-p.invariant in
-    let many = ap (λ (x : Contents). length x.faces) (c.in-Some.ensures.contents ∙ i.same) in
-    omega (arith, c.requires.room, i.room, many, c.place_across-place.ensures.within)
+pub returns-then-count-le-KEPT-clause-empty : goal.returns-then-count-le-KEPT-clause-empty
+returns-then-count-le-KEPT-clause-empty g c = λ j.
+    let v = c.args.self in
+    let among : is_marked c.args.marks.now j ≡ true → has (take v.count v.given) j ≡ true = λ on. ap (λ xs. has xs j) (v.kept c.if-count-le-KEPT.true) ∙ sym (c.requires.marks j) ∙ on in
+    c.clear_places.ensures.marked j ∙ none_left (is_marked c.args.marks.now j) (has (take v.count v.given) j) among
 
-pub loop-p-preserved : goal.loop-p-preserved
-loop-p-preserved g c =
-    let m = contents_in c.args.self in
-    let i = c.loop-p.invariant in
-    let old = face_positions c.loop-p.rings in
-    let new = face_positions c.pass.new.self in
-    let at : rings.contents_in c.pass.new.self ≡ m = c.in-Some.ensures.contents ∙ i.same in
-    let face = c.place_across-place.ensures.place ∙ ap (λ (x : Contents). place_across x c.in-Some.p) at in
-    let digits = ap line_digits i.same in
-    let digits_after = ap line_digits at in
-    record {
-      same = at;
-      room = c.clear.ensures.room ∙ i.room;
-      ahead = λ j h. ahead_next m old new c.in-Some.p c.place_across-place.result j (is_marked c.loop-p.marks j) (is_marked c.clear.new.self j) c.in-Some.ensures.next face (c.clear.ensures.marked j) (i.ahead j) h;
-      grows = omega (arith, i.grows, c.in-Some.ensures.cost.0, c.place_across-place.ensures.some_steps);
-      paid = face_cleared_cost m old new c.in-Some.p c.loop-p.steps c.pass.new.steps c.place_across-place.new.steps _ c.in-Some.ensures.next i.paid (omega (arith, digits, c.in-Some.ensures.cost.1)) (omega (arith, digits_after, c.place_across-place.ensures.cost));
-    }
+pub returns-else-count-le-KEPT-clause-empty : goal.returns-else-count-le-KEPT-clause-empty
+returns-else-count-le-KEPT-clause-empty g c = λ j.
+    let v = c.args.self in
+    let all = face_positions v.whole in
+    let among : is_marked c.args.marks.now j ≡ true → has (map (place_across (rings.contents_in v.whole)) all) j ≡ true
+    = λ on. subst (λ (x : Contents). has (map (place_across x) all) j ≡ true) (sym v.same) (given_across (contents_in v) v.place all v.count j (sym (c.requires.marks j) ∙ on)) in
+    c.clear_across.ensures.marked j ∙ none_left (is_marked c.args.marks.now j) (has (map (place_across (rings.contents_in v.whole)) all) j) among
 
-pub returns-clause-empty : goal.returns-clause-empty
-returns-clause-empty g c = λ j. ahead_end (contents_in c.args.self) (face_positions c.loop-p.rings) j (is_marked c.loop-p.marks j) c.in_default.ensures.next (c.loop-p.invariant.ahead j)
-
-pub returns-clause-paid : goal.returns-clause-paid
+pub returns-else-count-le-KEPT-clause-paid : goal.returns-else-count-le-KEPT-clause-paid
 unfolding allowance
-returns-clause-paid g c = omega (arith, c.loop-p.invariant.paid, c.in_default.ensures.cost)
+returns-else-count-le-KEPT-clause-paid g c =
+    let v = c.args.self in
+    let round = ap (λ (x : Contents). pass_price x * length (face_positions v.whole)) v.same in
+    omega (arith, c.clear_across.ensures.paid, round)

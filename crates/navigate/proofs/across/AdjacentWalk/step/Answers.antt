@@ -9,8 +9,10 @@ use Rattle.navigate.specs.Beside.{adjacent_places}
 use Rattle.navigate.specs.Standing.{IsStanding}
 use Rattle.navigate.specs.FaceWalk.{contents_in, face_positions, pass_price}
 use Rattle.navigate.specs.AdjacentWalk.{given, rest, allowance, step_price}
+use Rattle.navigate.proofs.Facts.{few_faces}
 use Rattle.navigate.proofs.Resting.{passed, passed_some}
 use Rattle.navigate.proofs.StandingLaws.{StepDone, stand_end, next_of, step_done, step_paid, drop-some, gives_next, gave_next}
+use Rattle.navigate.proofs.ClearLaws.{kept_next}
 use Rattle.navigate.proofs.across.AdjacentWalk.step.Goals as goal
 
 pub returns-in_default-clause-next : goal.returns-in_default-clause-next
@@ -32,6 +34,12 @@ set-requires g c =
     let v = c.args.self.now in
     let u = v.standing.ahead c.in-Some._p (drop 1 (face_positions v.left)) c.in-Some.ensures.next in
     omega (arith, u.low, c.requires.room)
+
+pub overflow_cast-next : goal.overflow_cast-next
+overflow_cast-next g c =
+    let v = c.args.self.now in
+    let u = v.standing.ahead c.in-Some._p (drop 1 (face_positions v.left)) c.in-Some.ensures.next in
+    omega (arith, u.low, few_faces (contents_in v.left) v.left.served.whole)
 
 pub face_in-face-requires : goal.face_in-face-requires
 face_in-face-requires g c =
@@ -64,6 +72,8 @@ invariant_of-self g c =
     record {
       same = v.same ∙ sym at;
       standing = subst (λ (x : Contents). IsStanding x v.place (face_positions v.whole) new (v.count + 1) c.to_unseen-self.result) (sym at) d.standing;
+      kept = λ few. kept_next v.given c.enter.new.places (adjacent_places m v.place (face_positions v.whole)) v.count v.next (omega (arith, few)) (v.kept (omega (arith, few))) d.given c.enter.ensures
+          ∙ ap (λ (x : Contents). take (v.count + 1) (adjacent_places x v.place (face_positions v.whole))) (sym at);
     }
 
 pub returns-clause-next : goal.returns-clause-next
