@@ -83,15 +83,14 @@ pub face_allowance-none : (w : FaceWalk) → rest w ≡ [] → allowance w ≡ 0
 unfolding allowance
 face_allowance-none w e = rw e (omega arith)
 
-pub face_paid : (v w : FaceWalk) (d : ℤ) (first second last : ℕ) → contents_in w ≡ contents_in v → rest v ≡ d ∷ rest w
-    → second ≤ first + (9 * line_digits (contents_in v) + 71) → last ≤ second + (7 * line_digits (contents_in v) + 93) → last + allowance w ≤ first + allowance v
+pub face_paid : (v w : FaceWalk) (d : ℤ) (first last : ℕ) → contents_in w ≡ contents_in v → rest v ≡ d ∷ rest w → last ≤ first + price (contents_in v) → last + allowance w ≤ first + allowance v
 unfolding allowance
-face_paid v w d first second last same e h k =
+face_paid v w d first last same e h =
     let prices = ap price same in
     let long : length (rest v) ≡ suc (length (rest w)) = ap length e in
     let all : price (contents_in v) * length (rest v) ≡ price (contents_in v) * suc (length (rest w)) = ap (λ n. price (contents_in v) * n) long in
     let other : price (contents_in w) * length (rest w) ≡ price (contents_in v) * length (rest w) = ap (λ x. x * length (rest w)) prices in
-    omega (arith, all, other, h, k)
+    omega (arith, all, other, h)
 
 -- the price of going on and looking across, in either order
 pub face_passed_cost : (c : Contents) (xs ys : List ℕ) (p first second last bound : ℕ) → xs ≡ p ∷ ys → first + pass_price c * length xs ≤ bound

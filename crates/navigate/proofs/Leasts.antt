@@ -1,19 +1,24 @@
 -- The smallest of a walk, as the walk goes on.
-use Rattle.std.specs.Prelude.{if◌then◌else◌, Contains}
+use Rattle.std.specs.Prelude.{if◌then◌else◌, Contains, drop}
 use Rattle.std.proofs.Common.{◌≡◌, ℕ, zero, suc, ◌+◌, ◌*◌, ◌≤◌, inl, inr, ℤ, true, false, List, [], ◌∷◌, length, refl, ap, sym, ◌∙◌, arith}
 use Rattle.std.proofs.lemmas.Bool.{cases_Bool}
 use Rattle.topo_base.specs.SignedEdge.{comes_before}
 use Rattle.file_laws.specs.Contents.{Contents}
 use Rattle.file_laws.specs.MapOfFile.{signed_at}
-use Rattle.navigate.specs.Bound.{line_digits}
 use Rattle.navigate.specs.Least.{least}
 use Rattle.navigate.specs.OrbitWalk.{price}
 
 -- none comes before itself
-pub least-own : (m : Contents) (p : ℕ) (qs : List ℕ) → least m p (p ∷ qs) ≡ least m p qs
+least-own : (m : Contents) (p : ℕ) (qs : List ℕ) → least m p (p ∷ qs) ≡ least m p qs
 unfolding least
 least-own m p qs =
     elim (cases_Bool (comes_before (signed_at m p) (signed_at m p))) [ inl w ↦ rw w refl | inr f ↦ rw f refl ]
+
+-- the smallest of an orbit is that of its first and what follows it
+pub least-first : (m : Contents) (p q : ℕ) (xs qs : List ℕ) → xs ≡ p ∷ drop 1 xs → xs ≡ q ∷ qs → least m q qs ≡ least m p xs
+least-first m p q xs qs e h =
+    let same : q ≡ p = cc in
+    ap (λ x. least m x qs) same ∙ sym (least-own m p qs) ∙ ap (λ x. least m p (x ∷ qs)) (sym same) ∙ ap (least m p) (sym h)
 
 pub least-none : (m : Contents) (p : ℕ) (xs : List ℕ) (x : ℕ) → xs ≡ [] → least m p xs ≡ x → p ≡ x
 unfolding least
@@ -33,12 +38,12 @@ least-left m p q xs qs d e x f g b h k =
     let one : least m p (q ∷ qs) ≡ least m p qs = ap (λ t. least m (if t then q else p) qs) test in
     sym one ∙ ap (least m p) (sym h) ∙ k
 
-pub paid-one : (m : Contents) (q : ℕ) (xs qs : List ℕ) (first second last bound : ℕ) → xs ≡ q ∷ qs → first + price m * length xs ≤ bound
-    → second ≤ first + (9 * line_digits m + 65) → last ≤ second + (7 * line_digits m + 93) → last + price m * length qs ≤ bound
-paid-one m q xs qs first second last bound e b h k =
+pub paid-one : (m : Contents) (q : ℕ) (xs qs : List ℕ) (first last bound : ℕ) → xs ≡ q ∷ qs → first + price m * length xs ≤ bound
+    → last ≤ first + price m → last + price m * length qs ≤ bound
+paid-one m q xs qs first last bound e b h =
     let more : price m * suc (length qs) ≡ price m * length qs + price m = omega arith in
     let l : price m * length xs ≡ price m * length qs + price m = ap (λ ys. price m * length ys) e ∙ more in
-    omega (arith, l, b, h, k)
+    omega (arith, l, b, h)
 
 -- the smallest is one of them
 pub least-among : (m : Contents) (p : ℕ) (qs : List ℕ) → Contains (p ∷ qs) (least m p qs)

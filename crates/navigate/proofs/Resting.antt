@@ -3,7 +3,6 @@ use Rattle.std.specs.Prelude.{map, MatchOption}
 use Rattle.std.proofs.Common.{◌≡◌, ℕ, suc, ◌+◌, ◌*◌, ◌≤◌, ℤ, List, [], ◌∷◌, length, ap, sym, ◌∙◌, arith, Option, Some, None}
 use Rattle.file_laws.specs.Contents.{Contents}
 use Rattle.file_laws.specs.MapOfFile.{signed_at}
-use Rattle.navigate.specs.Bound.{line_digits}
 use Rattle.navigate.specs.OrbitWalk.{contents_in, positions_left, rest, price, allowance}
 use Rattle.navigate.specs.declared.orbit_walk.OrbitWalk.{OrbitWalk}
 
@@ -25,12 +24,10 @@ allowance-some v w d same e =
     let more : price (contents_in v) * suc (length (rest w)) ≡ price (contents_in v) * length (rest w) + price (contents_in v) = omega arith in
     rw e (more ∙ ap (λ m. price m * length (rest w) + price (contents_in v)) (sym same))
 
-pub paid-some : (v w : OrbitWalk) (d : ℤ) (first second last : ℕ) → contents_in w ≡ contents_in v → rest v ≡ d ∷ rest w
-    → second ≤ first + (9 * line_digits (contents_in v) + 65) → last ≤ second + (7 * line_digits (contents_in w) + 93) → last + allowance w ≤ first + allowance v
-paid-some v w d first second last same e h k =
+pub paid-some : (v w : OrbitWalk) (d : ℤ) (first last : ℕ) → contents_in w ≡ contents_in v → rest v ≡ d ∷ rest w → last ≤ first + price (contents_in v) → last + allowance w ≤ first + allowance v
+paid-some v w d first last same e h =
     let a = allowance-some v w d same e in
-    let digits = ap line_digits same in
-    omega (arith, a, digits, h, k)
+    omega (arith, a, h)
 
 pub rest-at : (w : OrbitWalk) (m : Contents) (ps : List ℕ) → contents_in w ≡ m → positions_left w ≡ ps → rest w ≡ map (signed_at m) ps
 unfolding rest

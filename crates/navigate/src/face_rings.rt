@@ -92,6 +92,19 @@ impl<'a> FaceWalk<'a> {
         }
     }
 
+    /// Goes on with this ring, or with the next hole where nothing is left of it.
+    fn go_on<C: Ledger>(&mut self, ring: OrbitWalk<'a>, steps: &mut Steps<C>)
+        requires same { orbits.contents_in ring ≡ contents_in self.old }
+        ensures contents { contents_in self.new ≡ contents_in self.old }
+        ensures positions { face_positions self.new ≡ orbits.positions_left ring.entry
+            ++ outer_positions (contents_in self.old)
+            (components_between (contents_in self.old) self.old.hole self.old.end) }
+        ensures grows { steps.old ≤ steps.new }
+        ensures cost { steps.new ≤ steps.old + 6 }
+    {
+        *self = FaceWalk::settled(self.served, ring, self.hole, self.end, steps);
+    }
+
     /// The next position, or None at the end.
     pub fn pass<C: Ledger>(&mut self, steps: &mut Steps<C>) -> Option<usize>
         ensures contents { contents_in self.new ≡ contents_in self.old }
@@ -105,7 +118,7 @@ impl<'a> FaceWalk<'a> {
         let mut ring = self.ring;
         match ring.pass(steps) {
             Some(p) => {
-                *self = FaceWalk::settled(self.served, ring, self.hole, self.end, steps);
+                self.go_on(ring, steps);
                 Some(p)
             }
             None => None,
@@ -142,8 +155,12 @@ impl<'a> FaceWalk<'a> {
         ensures free { IsNone result → steps.new ≡ steps.old }
         ensures paid { steps.new + allowance self.new ≤ steps.old + allowance self.old }
     {
-        match self.pass(steps) {
-            Some(p) => Some(positions::edge_at(self.served, p, steps)),
+        let mut ring = self.ring;
+        match ring.stop(steps) {
+            Some(found) => {
+                self.go_on(ring, steps);
+                Some(found.1)
+            }
             None => None,
         }
     }

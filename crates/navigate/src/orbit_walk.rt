@@ -31,9 +31,11 @@ pub type NodeWalk<'a> = OrbitWalk<'a>;
 pub type RingWalk<'a> = OrbitWalk<'a>;
 
 impl<'a> OrbitWalk<'a> {
-    ghost use Rattle.std.specs.Prelude.{◌≡◌, ◌<◌, ◌≤◌, ◌+◌, ◌*◌, [], ◌∷◌, drop, length, IsSome, IsNone, MatchOption};
+    ghost use Rattle.std.specs.Prelude.{◌≡◌, ◌<◌, ◌≤◌, ◌+◌, ◌*◌, [], ◌∷◌, drop, length, IsSome, IsNone, IfSome, MatchOption};
     ghost use Rattle.std.specs.Iterator.{YieldsFirst};
+    ghost use Rattle.code_laws.specs.Code as codes;
     ghost use Rattle.code_laws.specs.Orbits.{orbit};
+    ghost use Rattle.file_laws.specs.MapOfFile.{signed_at};
     ghost use Rattle.pemb_file.specs.Served.{contents_of_view};
     ghost use Rattle.navigate.specs.Bound.{line_digits};
     ghost use Rattle.navigate.specs.OrbitWalk.{contents_in, positions_left, rest, price, allowance};
@@ -77,6 +79,22 @@ impl<'a> OrbitWalk<'a> {
         if self.left == 0 { None } else { Some(self.at) }
     }
 
+    /// Goes on to this position, which comes after the next one, or to the end where it is the first again.
+    fn go_on(&mut self, next: usize)
+        requires some { 0 < self.old.left }
+        requires within { next < length (contents_in self.old).code.a }
+        requires next { next ≡ codes.step (contents_in self.old).code self.old.kind self.old.at }
+        ensures contents { contents_in self.new ≡ contents_in self.old }
+        ensures left { positions_left self.old ≡ self.old.at ∷ positions_left self.new }
+    {
+        if next == self.first {
+            self.left = 0;
+        } else {
+            self.at = next;
+            self.left -= 1;
+        }
+    }
+
     /// The next position, or None at the end.
     pub(crate) fn pass<C: Ledger>(&mut self, steps: &mut Steps<C>) -> Option<usize>
         ensures contents { contents_in self.new ≡ contents_in self.old }
@@ -92,13 +110,28 @@ impl<'a> OrbitWalk<'a> {
         }
         let p = self.at;
         let next = positions::step_from(self.served, self.kind, p, steps);
-        if next == self.first {
-            self.left = 0;
-        } else {
-            self.at = next;
-            self.left -= 1;
-        }
+        self.go_on(next);
         Some(p)
+    }
+
+    /// The next position and its signed edge, or None at the end.
+    pub(crate) fn stop<C: Ledger>(&mut self, steps: &mut Steps<C>) -> Option<(usize, Signed)>
+        ensures contents { contents_in self.new ≡ contents_in self.old }
+        ensures next { MatchOption result (positions_left self.old ≡ [])
+            (λ found. positions_left self.old ≡ found.0 ∷ positions_left self.new) }
+        ensures edge { IfSome result (λ found. found.1 ≡ signed_at (contents_in self.old) found.0) }
+        ensures within { MatchOption result (positions_left self.new ≡ [])
+            (λ found. found.0 < length (contents_in self.old).code.a) }
+        ensures cost { MatchOption result (steps.new ≡ steps.old) (λ _. (steps.old + 1 ≤ steps.new)
+            × (steps.new ≤ steps.old + price (contents_in self.old))) }
+    {
+        if self.left == 0 {
+            return None;
+        }
+        let p = self.at;
+        let (edge, next) = positions::stop_at(self.served, self.kind, p, steps);
+        self.go_on(next);
+        Some((p, edge))
     }
 
     /// The next signed edge, or None at the end.
@@ -109,8 +142,8 @@ impl<'a> OrbitWalk<'a> {
         ensures free { IsNone result → steps.new ≡ steps.old }
         ensures paid { steps.new + allowance self.new ≤ steps.old + allowance self.old }
     {
-        match self.pass(steps) {
-            Some(p) => Some(positions::edge_at(self.served, p, steps)),
+        match self.stop(steps) {
+            Some(found) => Some(found.1),
             None => None,
         }
     }

@@ -59,6 +59,25 @@ pub fn edge_at<C: Ledger>(served: Served<'_>, p: usize, steps: &mut Steps<C>) ->
     with_direction(id, is_first == forward)
 }
 
+/// The signed edge of a position, and the next position of its orbit: round its node, or round its ring.
+pub fn stop_at<C: Ledger>(
+    served: Served<'_>,
+    kind: bool,
+    p: usize,
+    steps: &mut Steps<C>,
+) -> (Signed, usize)
+    requires { p < length (contents_of_view served).code.a }
+    ensures edge { result.0 ≡ signed_at (contents_of_view served.entry) p }
+    ensures next { result.1 ≡ step (contents_of_view served.entry).code kind p }
+    ensures within { result.1 < length (contents_of_view served.entry).code.a }
+    ensures some_steps { steps.old + 1 ≤ steps.new }
+    ensures cost { steps.new ≤ steps.old + (16 * line_digits (contents_of_view served.entry) + 158) }
+{
+    let next = step_from(served, kind, p, steps);
+    let edge = edge_at(served, p, steps);
+    (edge, next)
+}
+
 /// The first position of a signed edge's edge, and whether it is the signed edge's own. None where the map lacks the
 /// edge.
 fn first_position<C: Ledger>(

@@ -7,7 +7,6 @@ ghost use Rattle.navigate.specs.Least.{smallest_of};
 ghost use Rattle.navigate.specs.OrbitWalk.{price};
 
 use crate::orbit_walk::OrbitWalk;
-use crate::positions;
 use bit_words::Steps;
 use pemb_file::Served;
 use std::sync::ledger::Ledger;
@@ -27,15 +26,13 @@ pub fn smallest_from<C: Ledger>(
         * length (orbit (contents_of_view served.entry).code kind p) }
 {
     let mut walk = OrbitWalk::from(served, kind, p);
-    let mut best = p;
-    let mut best_edge = positions::edge_at(served, p, steps);
-    let _own = walk.pass(steps);
-    while let Some(q) = walk.pass(steps) {
-        let edge = positions::edge_at(served, q, steps);
-        if edge.key_less(best_edge) {
-            best = q;
-            best_edge = edge;
+    let Some(mut best) = walk.stop(steps) else {
+        unreachable!()
+    };
+    while let Some(found) = walk.stop(steps) {
+        if found.1.key_less(best.1) {
+            best = found;
         }
     }
-    best
+    best.0
 }

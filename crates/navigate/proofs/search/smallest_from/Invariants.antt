@@ -6,17 +6,17 @@ use Rattle.pemb_file.specs.Served.{contents_of_view}
 use Rattle.navigate.specs.OrbitWalk.{contents_in, positions_left, price}
 use Rattle.navigate.proofs.search.smallest_from.Given as goal
 
-abbrev pub invariant-loop-q : goal.invariant-loop-q
-invariant-loop-q g l =
+abbrev pub invariant-loop-found : goal.invariant-loop-found
+invariant-loop-found g l =
     let m = contents_of_view l.served in
     record {
       map : contents_in l.walk ≡ m;
-      within : l.best < length m.code.a;
-      edge : l.best_edge ≡ signed_at m l.best;
-      least_left : least m l.best (positions_left l.walk) ≡ smallest_of m l.kind l.p;
+      within : l.best.0 < length m.code.a;
+      edge : l.best.1 ≡ signed_at m l.best.0;
+      least_left : least m l.best.0 (positions_left l.walk) ≡ smallest_of m l.kind l.p;
       grows : l.fn.steps + 1 ≤ l.steps;
       paid : l.steps + price m * length (positions_left l.walk) ≤ l.fn.steps + price m * length (orbit m.code l.kind l.p);
     }
 
-abbrev pub decreases-loop-q : goal.decreases-loop-q
-decreases-loop-q g l = length (positions_left l.walk)
+abbrev pub decreases-loop-found : goal.decreases-loop-found
+decreases-loop-found g l = length (positions_left l.walk)

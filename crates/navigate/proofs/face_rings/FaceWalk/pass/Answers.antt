@@ -3,7 +3,7 @@ use Rattle.navigate.proofs.FaceLaws.{face_end, face_next}
 use Rattle.navigate.proofs.face_rings.FaceWalk.pass.Goals as goal
 
 pub returns-in-Some-clause-next : goal.returns-in-Some-clause-next
-returns-in-Some-clause-next g c = face_next c.args.self.now c.settled.result c.in-Some.p (positions_left c.pass.new.self) c.in-Some.ensures.next c.settled.ensures.positions
+returns-in-Some-clause-next g c = face_next c.args.self.now c.go_on.new.self c.in-Some.p (positions_left c.pass.new.self) c.in-Some.ensures.next c.go_on.ensures.positions
 
 pub returns-in-None-clause-next : goal.returns-in-None-clause-next
 returns-in-None-clause-next g c = face_end c.args.self.now c.in-None.ensures.next
