@@ -39,10 +39,7 @@ all_rows c h start nodes edges faces regions members a b f r m =
     let r_each : rs * 1 ≤ rs * d = mul-le-mul_left rs one in
     omega (arith, words, n_many, f_many, n_each, e_each, f_each, r_each, one, a, b, f, r, m)
 
--- a row more of n rows, and all rows before the place where a loop ends
-pub row_paid : (place n price start first last : ℕ) → place < n → first ≤ start + place * price → last ≤ first + price → last ≤ start + n * price
-row_paid place n price start first last l a b = let k : price * (place + 1) ≤ price * n = mul-le-mul_left price (omega (arith, l)) in omega (arith, k, a, b)
-
+-- all rows before the place where a loop ends
 pub rows_paid : (place n price start last : ℕ) → place ≤ n → last ≤ start + place * price → last ≤ start + n * price
 rows_paid place n price start last l a = let k : price * place ≤ price * n = mul-le-mul_left price l in omega (arith, k, a)
 
