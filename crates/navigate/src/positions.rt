@@ -1,8 +1,8 @@
 //! Positions of the code: the signed edge of each, and the steps between them.
 
-ghost use Rattle.std.specs.Prelude.{◌≡◌, ◌<◌, ◌≤◌, ◌+◌, ◌*◌, length, is_some, IfSome, if◌then◌else◌};
-ghost use Rattle.code_laws.specs.Code.{step, mate};
-ghost use Rattle.code_laws.specs.Numbers.{ring_of};
+ghost use Rattle.std.specs.Prelude.{ℕ, ◌≡◌, ◌<◌, ◌≤◌, ◌+◌, ◌*◌, length, is_some, IfSome, if◌then◌else◌};
+ghost use Rattle.code_laws.specs.Code.{is_first, mate, step};
+ghost use Rattle.code_laws.specs.Numbers.{edge_of, ring_of};
 ghost use Rattle.plane_model.specs.Answers.{has_signed_edge};
 ghost use Rattle.file_laws.specs.MapOfFile.{signed_at, place_of_ring};
 ghost use Rattle.pemb_file.specs.Served.{contents_of_view};
@@ -42,21 +42,37 @@ pub fn mate_of<C: Ledger>(served: Served<'_>, p: usize, steps: &mut Steps<C>) ->
     served.code().mate(p, steps)
 }
 
+/// The signed edge of the edge of a number: that of its first position, or that of the other one.
+fn edge_with<C: Ledger>(
+    served: Served<'_>,
+    number: usize,
+    is_first: bool,
+    steps: &mut Steps<C>,
+) -> Signed
+    requires { number < length (contents_of_view served).edges }
+    ensures edge { (p : ℕ) → number ≡ edge_of (contents_of_view served.entry).code p
+        → is_first ≡ is_first (contents_of_view served.entry).code p
+        → result ≡ signed_at (contents_of_view served.entry) p }
+    ensures some_steps { steps.old + 1 ≤ steps.new }
+    ensures cost { steps.new ≤ steps.old + (3 * line_digits (contents_of_view served.entry) + 21) }
+{
+    let forward = served.forward(number, steps);
+    let edges = served.edges();
+    let _count = edges.count();
+    let id = edges.id_of(number, steps);
+    with_direction(id, is_first == forward)
+}
+
 /// The signed edge of a position.
 pub fn edge_at<C: Ledger>(served: Served<'_>, p: usize, steps: &mut Steps<C>) -> Signed
     requires { p < length (contents_of_view served).code.a }
     ensures edge { result ≡ signed_at (contents_of_view served.entry) p }
     ensures some_steps { steps.old + 1 ≤ steps.new }
-    ensures cost { steps.new ≤ steps.old + (7 * line_digits (contents_of_view served.entry) + 93) }
+    ensures cost { steps.new ≤ steps.old + (7 * line_digits (contents_of_view served.entry) + 82) }
 {
     let code = served.code();
     let (number, is_first) = code.edge_and_side(p, steps);
-    let edge = number as usize;
-    let forward = served.forward(edge, steps);
-    let edges = served.edges();
-    let _count = edges.count();
-    let id = edges.id_of(edge, steps);
-    with_direction(id, is_first == forward)
+    edge_with(served, number as usize, is_first, steps)
 }
 
 /// The signed edge of a position, and the next position of its orbit: round its node, or round its ring.
@@ -71,11 +87,12 @@ pub fn stop_at<C: Ledger>(
     ensures next { result.1 ≡ step (contents_of_view served.entry).code kind p }
     ensures within { result.1 < length (contents_of_view served.entry).code.a }
     ensures some_steps { steps.old + 1 ≤ steps.new }
-    ensures cost { steps.new ≤ steps.old + (16 * line_digits (contents_of_view served.entry) + 158) }
+    ensures cost { steps.new ≤ steps.old + (16 * line_digits (contents_of_view served.entry) + 137) }
 {
-    let next = step_from(served, kind, p, steps);
-    let edge = edge_at(served, p, steps);
-    (edge, next)
+    let code = served.code();
+    let stop = code.stop(kind, p, steps);
+    let edge = edge_with(served, stop.edge as usize, stop.is_first, steps);
+    (edge, stop.next)
 }
 
 /// The first position of a signed edge's edge, and whether it is the signed edge's own. None where the map lacks the

@@ -1,9 +1,8 @@
 -- Files that are written one after another.
-use Rattle.std.specs.Prelude.{IsErrAnd, map}
-use Rattle.std.proofs.Common.{◌≡◌, ◌≢◌, inl, inr, List, [], ◌∷◌, ◌++◌, ℕ, Option, None, Some, Result, Ok, Err, OnOk, OnErr, refl, sym, ap, ◌∙◌, subst}
+use Rattle.std.proofs.Common.{◌≡◌, ◌≢◌, inl, inr, List, [], ◌∷◌, ◌++◌, ℕ, Option, None, Some, refl, sym, ◌∙◌}
 use Rattle.ports.specs.Outside.{Files, OthersStay, WhereTold, Holds, HoldsFront, IsFrontAtMost}
 use Rattle.table_dump.specs.Dumped.{AllOthersStay, AreApart, AreHeld, AreWritten, AreWrittenInPart, IsOther, NamedText, names_of}
-use Rattle.table_dump.proofs.Putting.{told_on, told_as}
+use Rattle.table_dump.proofs.Putting.{told_on}
 
 -- before the first
 pub written_none : (x : Option Files) → WhereTold (AreWritten []) x x

@@ -9,3 +9,4 @@ pub mod Filling
 pub mod Ranked
 pub mod Sweeping
 pub mod RingPlaces
+pub mod Reading

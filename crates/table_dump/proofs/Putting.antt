@@ -1,8 +1,8 @@
 -- Bytes that are put behind what a name holds, or gathered for it, one after another.
 use Rattle.std.specs.Prelude.{IsErrAnd}
 use Rattle.std.proofs.Common.{◌≡◌, ◌⊎◌, inl, inr, ℕ, ◌+◌, ◌≤◌, List, [], ◌++◌, Option, None, Some, Result, Ok, Err, OnOk, OnErr, refl, sym, ap, ◌∙◌, append_assoc, append-nil, arith, subst}
-use Rattle.ports.specs.Outside.{Files, CountsWrite, IsExtended, IsExtendedInPart, IsHeld, IsStarted, IsStartedAtMost, OthersStay, Rose, WhereTold, Holds, HoldsFront}
-use Rattle.table_dump.specs.Gathering.{Out, out_at, Extends, ExtendsInPart, Gains, Writes}
+use Rattle.ports.specs.Outside.{Files, CountsWrite, IsExtended, IsExtendedInPart, IsHeld, IsStarted, IsStartedAtMost, OthersStay, WhereTold, Holds, HoldsFront}
+use Rattle.table_dump.specs.Gathering.{Out, out_at, Extends, ExtendsInPart, Writes}
 
 -- what holds of the files from one moment to the next, where they are told
 pub told_on : {P Q R : Files → Files → Type 0} → ((a b c : Files) → P a b → Q b c → R a c) → (x y z : Option Files) → WhereTold P x y → WhereTold Q y z → WhereTold R x z

@@ -1,5 +1,5 @@
 -- What a dump costs: each table by its rows, and all of them by the size of the map.
-use Rattle.std.proofs.Common.{◌≡◌, ℕ, ◌+◌, ◌*◌, ◌<◌, ◌≤◌, true, length, ap, ◌∙◌, arith}
+use Rattle.std.proofs.Common.{◌≡◌, ℕ, ◌+◌, ◌*◌, ◌≤◌, true, length, ap, ◌∙◌, arith}
 use Rattle.std.proofs.Math.Nat.{mul-le-mul_left}
 use Rattle.plane_model.specs.Consistent.{size}
 use Rattle.file_laws.specs.Contents.{Contents}
@@ -11,7 +11,7 @@ use Rattle.navigate.proofs.OrbitLengths.{some_digits}
 use Rattle.table_dump.specs.Prices.{most_dump_words}
 
 -- what the five tables cost together
-pub all_rows : (c : Contents) → is_whole c ≡ true → (start nodes edges faces regions members : ℕ) → nodes ≤ start + length c.nodes * (2 + (6 * line_digits c + 40)) → edges ≤ nodes + length c.edges * (18 * line_digits c + 134 + (3 * line_digits c + 18))
+pub all_rows : (c : Contents) → is_whole c ≡ true → (start nodes edges faces regions members : ℕ) → nodes ≤ start + length c.nodes * (2 + (6 * line_digits c + 40)) → edges ≤ nodes + length c.edges * (9 * line_digits c + 78 + (3 * line_digits c + 18))
     → faces ≤ edges + length c.faces * (0 + (3 * line_digits c + 18)) → regions ≤ faces + length c.regions * (0 + (17 * line_digits c + 121)) → members ≤ regions + (length c.faces + 1) * (2 + (6 * line_digits c + 42))
     → members ≤ start + most_dump_words (map_with c)
 all_rows c h start nodes edges faces regions members a b f r m =
@@ -39,10 +39,7 @@ all_rows c h start nodes edges faces regions members a b f r m =
     let r_each : rs * 1 ≤ rs * d = mul-le-mul_left rs one in
     omega (arith, words, n_many, f_many, n_each, e_each, f_each, r_each, one, a, b, f, r, m)
 
--- a row more of n rows, and all rows before the place where a loop ends
-pub row_paid : (place n price start first last : ℕ) → place < n → first ≤ start + place * price → last ≤ first + price → last ≤ start + n * price
-row_paid place n price start first last l a b = let k : price * (place + 1) ≤ price * n = mul-le-mul_left price (omega (arith, l)) in omega (arith, k, a, b)
-
+-- all rows before the place where a loop ends
 pub rows_paid : (place n price start last : ℕ) → place ≤ n → last ≤ start + place * price → last ≤ start + n * price
 rows_paid place n price start last l a = let k : price * place ≤ price * n = mul-le-mul_left price l in omega (arith, k, a)
 
@@ -50,9 +47,9 @@ rows_paid place n price start last l a = let k : price * place ≤ price * n = m
 pub one_table : (c : Contents) → is_whole c ≡ true → (start last : ℕ) → last ≤ start + length c.nodes * (2 + (6 * line_digits c + 40)) → last ≤ start + most_dump_words (map_with c)
 one_table c h start last a = all_rows c h start last last last last last a (omega arith) (omega arith) (omega arith) (omega arith)
 
-pub two_tables : (c : Contents) → is_whole c ≡ true → (start nodes last : ℕ) → nodes ≤ start + length c.nodes * (2 + (6 * line_digits c + 40)) → last ≤ nodes + length c.edges * (18 * line_digits c + 134 + (3 * line_digits c + 18)) → last ≤ start + most_dump_words (map_with c)
+pub two_tables : (c : Contents) → is_whole c ≡ true → (start nodes last : ℕ) → nodes ≤ start + length c.nodes * (2 + (6 * line_digits c + 40)) → last ≤ nodes + length c.edges * (9 * line_digits c + 78 + (3 * line_digits c + 18)) → last ≤ start + most_dump_words (map_with c)
 two_tables c h start nodes last a b = all_rows c h start nodes last last last last a b (omega arith) (omega arith) (omega arith)
 
-pub three_tables : (c : Contents) → is_whole c ≡ true → (start nodes edges last : ℕ) → nodes ≤ start + length c.nodes * (2 + (6 * line_digits c + 40)) → edges ≤ nodes + length c.edges * (18 * line_digits c + 134 + (3 * line_digits c + 18))
+pub three_tables : (c : Contents) → is_whole c ≡ true → (start nodes edges last : ℕ) → nodes ≤ start + length c.nodes * (2 + (6 * line_digits c + 40)) → edges ≤ nodes + length c.edges * (9 * line_digits c + 78 + (3 * line_digits c + 18))
     → last ≤ edges + length c.faces * (0 + (3 * line_digits c + 18)) → last ≤ start + most_dump_words (map_with c)
 three_tables c h start nodes edges last a b f = all_rows c h start nodes edges last last last a b f (omega arith) (omega arith)

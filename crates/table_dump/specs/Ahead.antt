@@ -1,14 +1,14 @@
 -- What is read ahead for a table, and how many words it takes.
-use Rattle.std.specs.Prelude.{ℕ, ◌*◌, List, length, max, ⊤}
+use Rattle.std.specs.Prelude.{ℕ, ◌+◌, ◌*◌, List, length, ⊤}
 use Rattle.topo_base.specs.declared.refusal.Table.{Table}
 use Rattle.topo_base.specs.declared.refusal.Table.TheVariants as table
 use Rattle.file_laws.specs.Contents.{Contents}
 use Rattle.table_dump.specs.AtEnds.{AreEnds}
 use Rattle.table_dump.specs.ByRank.{AreByRank}
 
--- how many words a dump is lent
+-- how many words a dump is lent: six for the ends of each edge and one for the tour, and one for each id
 abbrev pub words_to_dump : Contents → ℕ
-words_to_dump c = max (max (7 * length c.edges) (length c.nodes)) (length c.faces)
+words_to_dump c = 8 * length c.edges + length c.nodes + length c.faces
 
 -- how many numbers are read ahead for a table
 abbrev pub ahead_count : Contents → Table → ℕ

@@ -7,5 +7,6 @@ pub mod Dumped
 pub mod Ends
 pub mod AtEnds
 pub mod Ahead
+pub mod Ids
 pub mod Filled
 pub mod Sweep

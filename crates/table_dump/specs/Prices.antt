@@ -11,7 +11,7 @@ use Rattle.navigate.specs.Bound.{line_digits}
 -- what is read ahead for a row, and what its line costs then
 abbrev pub ahead_price : Contents → Table → ℕ
 ahead_price c table.Node = 2
-ahead_price c table.Edge = 18 * line_digits c + 134
+ahead_price c table.Edge = 9 * line_digits c + 78
 ahead_price c table.Face = 0
 ahead_price c table.Region = 0
 ahead_price c table.Member = 2

@@ -10,6 +10,7 @@ ghost use Rattle.table_dump.specs.Prices.{ahead_price};
 
 use crate::by_rank::put_by_rank;
 use crate::ends::NUMBERS;
+use crate::ids::read_ids;
 use crate::sweep::fill_ends;
 use bit_words::Steps;
 use code_tour::Tour;
@@ -18,7 +19,8 @@ use scratch_region::{Numbers, Region};
 use std::sync::ledger::Ledger;
 use topo_base::Table;
 
-/// How many words a dump is lent: six for the ends of each edge and one for the tour, or one for each node or face.
+/// How many words a dump is lent: six for the ends of each edge and one for the tour, and one for the id of each node,
+/// edge and face.
 pub fn words_to_dump(served: Served<'_>) -> usize
     ensures words { result ≡ words_to_dump (contents_of_view served.entry) }
     ensures few { result ≤ 2147483647 }
@@ -26,7 +28,9 @@ pub fn words_to_dump(served: Served<'_>) -> usize
     let edges = served.edges().count();
     let nodes = served.nodes().count();
     let faces = served.faces().count();
-    (2 * NUMBERS * edges + edges).max(nodes).max(faces)
+    let ends = 2 * NUMBERS * edges;
+    let tour = edges;
+    ends + tour + (nodes + edges + faces)
 }
 
 /// How many numbers are read ahead for a table.
@@ -60,8 +64,9 @@ pub(crate) fn read_ahead<'r, C: Ledger>(
     match table {
         Table::Node => put_by_rank(served.nodes(), &mut ahead, steps),
         Table::Edge => {
+            let (ids, room) = read_ids(served, room, steps);
             let mut tour = Tour::new(served.code(), room);
-            fill_ends(served, &mut tour, &mut ahead, steps);
+            fill_ends(served, &ids, &mut tour, &mut ahead, steps);
         }
         Table::Member => put_by_rank(served.faces(), &mut ahead, steps),
         Table::Face | Table::Region => {}

@@ -35,7 +35,7 @@ pub(crate) fn put_out<H: Shelf>(
 }
 
 /// Writes what was gathered where there is no room for so many bytes more.
-fn make_room<H: Shelf>(
+pub(crate) fn make_room<H: Shelf>(
     shelf: &mut H,
     name: &str,
     text: &mut Gathered,

@@ -8,6 +8,7 @@ mod ends;
 mod fault;
 mod file_names;
 mod gathered;
+mod ids;
 mod line;
 mod rows;
 mod sweep;

@@ -1,6 +1,6 @@
 //! One table, written under its name.
 
-ghost use Rattle.std.specs.Prelude.{◌≡◌, ◌<◌, ◌≤◌, ◌+◌, ◌*◌, [], length, OnErr, OnOk};
+ghost use Rattle.std.specs.Prelude.{◌≡◌, ◌<◌, ◌≤◌, ◌+◌, ◌*◌, ◌++◌, [], length, OnErr, OnOk};
 ghost use Rattle.scratch_region.specs.Numbers.{numbers_of};
 ghost use Rattle.ports.specs.Outside.{CountsWrite, WhereTold, Holds, HoldsFront};
 ghost use Rattle.plane_model.specs.Texts.{table_text};
@@ -11,8 +11,8 @@ ghost use Rattle.table_dump.specs.Ahead.{IsAhead, words_to_dump};
 ghost use Rattle.table_dump.specs.Prices.{line_price, row_price};
 
 use crate::ahead::read_ahead;
-use crate::gathered::{Gathered, gather, put_out};
-use crate::line::{Line, edge_line, face_line, member_line, node_line, region_line};
+use crate::gathered::{Gathered, gather, make_room, put_out};
+use crate::line::{LONGEST, put_edge, put_face, put_member, put_node, put_region};
 use crate::rows::{edge_row, face_row, member_row, node_row, region_row};
 use bit_words::Steps;
 use pemb_file::Served;
@@ -51,28 +51,31 @@ fn places(served: Served<'_>, table: Table) -> usize
     }
 }
 
-/// The line at a place of a table, or nothing where a face is in no region, over what was read ahead for the table.
-fn line_in<C: Ledger>(
+/// Puts the line at a place of a table, over what was read ahead for the table. Nothing is put where a face is in no
+/// region.
+fn put_line<C: Ledger>(
     served: Served<'_>,
     table: Table,
     ahead: &Numbers<'_>,
     place: usize,
+    text: &mut Gathered,
     steps: &mut Steps<C>,
-) -> Line
+)
     requires within { place < row_count (contents_of_view served) table }
     requires ahead { IsAhead (contents_of_view served) table (numbers_of ahead.now) }
-    ensures line { result.items ≡ line_at (contents_of_view served.entry) table place }
+    requires room { length text.old.items + 160 ≤ 65536 }
+    ensures line { text.new.items ≡ text.old.items ++ line_at (contents_of_view served.entry) table place }
     ensures some_steps { steps.old + 1 ≤ steps.new }
     ensures cost { steps.new ≤ steps.old + line_price (contents_of_view served.entry) table }
 {
     match table {
-        Table::Node => node_line(node_row(served, ahead, place, steps)),
-        Table::Edge => edge_line(edge_row(served, ahead, place, steps)),
-        Table::Face => face_line(face_row(served, place, steps)),
-        Table::Region => region_line(region_row(served, place, steps)),
+        Table::Node => put_node(text, node_row(served, ahead, place, steps)),
+        Table::Edge => put_edge(text, edge_row(served, ahead, place, steps)),
+        Table::Face => put_face(text, face_row(served, place, steps)),
+        Table::Region => put_region(text, region_row(served, place, steps)),
         Table::Member => match member_row(served, ahead, place, steps) {
-            Some(row) => member_line(row),
-            None => Line::new(),
+            Some(row) => put_member(text, row),
+            None => {}
         },
     }
 }
@@ -107,8 +110,8 @@ fn write_lines<H: Shelf, C: Ledger>(
     gather(shelf, name, text, header(table))?;
     let count = places(served, table);
     for place in 0..count {
-        let line = line_in(served, table, ahead, place, steps);
-        gather(shelf, name, text, line.as_slice())?;
+        make_room(shelf, name, text, LONGEST)?;
+        put_line(served, table, ahead, place, text, steps);
     }
     put_out(shelf, name, text)
 }

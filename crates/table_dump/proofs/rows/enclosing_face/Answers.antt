@@ -1,4 +1,4 @@
-use Rattle.std.proofs.Common.{◌-◌, arith, sym, ◌∙◌}
+use Rattle.std.proofs.Common.{◌-◌, arith}
 use Rattle.pemb_file.specs.Served.{contents_of_view}
 use Rattle.navigate.proofs.Facts.{w}
 use Rattle.table_dump.proofs.AtRanks.{joined_is, face_none, face_some}

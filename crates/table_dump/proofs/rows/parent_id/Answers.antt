@@ -1,5 +1,5 @@
 use Rattle.std.specs.Prelude.{slice_index, option_map}
-use Rattle.std.proofs.Common.{◌≡◌, ◌<◌, ◌+◌, ℕ, List, Bool, length, arith, ap, sym, ◌∙◌, Option, Some}
+use Rattle.std.proofs.Common.{length, arith, ap, ◌∙◌, Some}
 use Rattle.region_tree.specs.Nesting.{parent_number}
 use Rattle.region_tree.specs.RegionView.{Regions}
 use Rattle.pemb_file.specs.Served.{contents_of_view}

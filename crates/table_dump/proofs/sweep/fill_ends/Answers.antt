@@ -8,7 +8,6 @@ use Rattle.code_laws.specs.Code.{Code}
 use Rattle.code_tour.specs.Passed.{IsPassed}
 use Rattle.code_tour.specs.Tour.{code_in, position_of}
 use Rattle.pemb_file.specs.Served.{contents_of_view}
-use Rattle.navigate.specs.Bound.{line_digits}
 use Rattle.navigate.proofs.Facts.{w, few_edges}
 use Rattle.table_dump.specs.Sweep.{AreSwept}
 use Rattle.table_dump.proofs.Sweeping.{all_swept, first_swept, none_swept}
@@ -30,8 +29,6 @@ loop-passed-init g c =
     let numbers = subst (λ (k : Code). IsPassed k 0 c.in-Some.first) c.requires.code (subst (λ x. IsPassed (code_in before) x c.in-Some.first) c.requires.first c.in-Some.ensures.numbers) in
     let here = c.put_position-behind in
     let one : position_of c.pass.new.self ≡ 1 = omega (arith, c.in-Some.ensures.next, c.requires.first) in
-    let price = 9 * line_digits m + 67 in
-    let paid = ap (λ x. x * (9 * line_digits m + 67)) one in
     record {
       code = c.in-Some.ensures.code ∙ c.requires.code;
       within = omega (arith, one, some);
@@ -40,7 +37,7 @@ loop-passed-init g c =
       swept = subst (λ x. AreSwept m edges x (numbers_of here.new.ends) here.result) (sym one)
           (first_swept m (w m c.args.served.whole) edges c.edges-edges.ensures (numbers_of c.args.ends.now) (numbers_of here.new.ends) here.result some c.requires.room (here.ensures.put 0 some numbers));
       read = omega (arith, c.in-Some.ensures.least refl, here.ensures.some_steps);
-      paid = omega (arith, paid, c.in-Some.ensures.most, here.ensures.cost);
+      paid = omega (arith, one, c.in-Some.ensures.most, here.ensures.cost);
     }
 
 pub loop-passed-preserved : goal.loop-passed-preserved
@@ -53,7 +50,6 @@ loop-passed-preserved g c =
     let numbers = subst (λ (k : Code). IsPassed k (position_of c.loop-passed.tour) c.in-Some-pass.passed) i.code c.in-Some-pass.ensures.numbers in
     let here = c.put_next_position-behind in
     let next : position_of c.pass-in-loop-passed.new.self ≡ position_of c.loop-passed.tour + 1 = c.in-Some-pass.ensures.next in
-    let paid = ap (λ x. x * (9 * line_digits m + 67)) next in
     record {
       code = c.in-Some-pass.ensures.code ∙ i.code;
       within = omega (arith, next, l);
@@ -61,7 +57,7 @@ loop-passed-preserved g c =
       end = here.ensures.within;
       swept = subst (λ x. AreSwept m c.edges-edges.result x (numbers_of here.new.ends) here.result) (sym next) (here.ensures.swept (position_of c.loop-passed.tour) l numbers i.swept);
       read = omega (arith, i.read, c.in-Some-pass.ensures.least refl, here.ensures.grows);
-      paid = omega (arith, paid, i.paid, c.in-Some-pass.ensures.most, here.ensures.cost);
+      paid = omega (arith, next, i.paid, c.in-Some-pass.ensures.most, here.ensures.cost);
     }
 
 pub put_next-requires-clause-few : goal.put_next-requires-clause-few
@@ -89,5 +85,4 @@ returns-clause-cost g c =
     let long = ap (λ (k : Code). length k.a) i.code in
     let sizes = (w m c.args.served.whole).sizes.positions in
     let all : position_of c.loop-passed.tour ≡ 2 * length m.edges = omega (arith, c.in_default-pass.ensures.end, long, sizes) in
-    let paid = ap (λ x. x * (9 * line_digits m + 67)) all in
-    omega (arith, paid, i.paid, c.in_default-pass.ensures.free refl)
+    omega (arith, all, i.paid, c.in_default-pass.ensures.free refl)

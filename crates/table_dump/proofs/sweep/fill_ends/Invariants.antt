@@ -2,7 +2,6 @@ use Rattle.std.proofs.Common.{◌≡◌, ◌+◌, ◌-◌, ◌*◌, ◌<◌, ◌
 use Rattle.scratch_region.specs.Numbers.{numbers_of}
 use Rattle.code_tour.specs.Tour.{code_in, position_of}
 use Rattle.pemb_file.specs.Served.{contents_of_view}
-use Rattle.navigate.specs.Bound.{line_digits}
 use Rattle.table_dump.specs.Sweep.{AreSwept}
 use Rattle.table_dump.proofs.sweep.fill_ends.Given as goal
 
@@ -16,7 +15,7 @@ invariant-loop-passed g l =
       end : l.behind.end < 2 * length c.edges;
       swept : AreSwept c l.edges (position_of l.tour) (numbers_of l.ends) l.behind;
       read : l.fn.steps ≤ l.steps;
-      paid : l.steps ≤ l.fn.steps + position_of l.tour * (9 * line_digits c + 67);
+      paid : l.steps ≤ l.fn.steps + 9 * position_of l.tour;
     }
 
 abbrev pub decreases-loop-passed : goal.decreases-loop-passed

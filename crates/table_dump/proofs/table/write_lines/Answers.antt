@@ -1,13 +1,13 @@
-use Rattle.std.proofs.Common.{◌≡◌, ◌+◌, ◌-◌, ◌<◌, ◌++◌, ℕ, List, arith, ap, sym, ◌∙◌, rules}
+use Rattle.std.proofs.Common.{◌≡◌, ◌+◌, ◌-◌, ◌<◌, ◌++◌, [], ℕ, List, arith, ap, sym, ◌∙◌, refl, rules}
 use Rattle.plane_model.specs.Texts.{table_text}
 use Rattle.pemb_file.specs.Served.{contents_of_view}
 use Rattle.navigate.specs.Bound.{served_map}
 use Rattle.navigate.proofs.Facts.{w}
-use Rattle.table_dump.specs.Lines.{lines_from, row_count}
+use Rattle.table_dump.specs.Lines.{line_at, lines_from, row_count}
 use Rattle.table_dump.specs.Prices.{line_price}
 use Rattle.table_dump.proofs.ByPlace.{lines_more, text_by_place}
-use Rattle.table_dump.proofs.Putting.{begun, counts_failed, counts_more, counts_same, ended_err, ended_ok, not_begun, on_failure, places_read, stopped, went_on}
-use Rattle.table_dump.proofs.Sums.{row_paid, rows_paid}
+use Rattle.table_dump.proofs.Putting.{begun, counts_failed, counts_more, counts_same, ended_err, ended_ok, gathered_behind, not_begun, on_failure, places_read, stopped, went_on}
+use Rattle.table_dump.proofs.Sums.{rows_paid}
 use Rattle.table_dump.proofs.table.write_lines.Goals as goal
 
 pub returns-in_err-start-clause-part : goal.returns-in_err-start-clause-part
@@ -57,38 +57,34 @@ loop-place-preserved g c =
     let i = c.loop-place.place in
     let kept = c.loop-place.invariant in
     let l : i < n = omega (arith, c.places-count.ensures.count) in
-    let is : c.as_slice.result.now ≡ c.line_in-line.result.items = search rules in
-    let split = lines_more m t i n l ∙ ap (λ (z : List ℕ). z ++ lines_from m t (i + 1) (n - (i + 1))) (sym (is ∙ c.line_in-line.ensures.line)) in
+    let room = c.in_ok-make_room.ensures in
+    let writes = gathered_behind {Y = ℕ} {F = ℕ} _ 0 c.args.name.now _ _ _ _ _ (line_at m t i) c.put_line.ensures.line room.writes in
     record {
-      way = went_on _ c.args.name.now whole (lines_from m t i (n - i)) (lines_from m t (i + 1) (n - (i + 1))) c.as_slice.result.now _ _ _ _ _ _ _ split kept.way c.in_ok-gather-2.ensures.writes;
-      held = c.in_ok-gather-2.ensures.writes.held;
-      faults = c.in_ok-gather-2.ensures.no_fault ∙ kept.faults;
-      misses = c.in_ok-gather-2.ensures.no_miss ∙ kept.misses;
-      write_faults = c.in_ok-gather-2.ensures.writes.counted.stays ∙ kept.write_faults;
-      least = omega (arith, kept.least, c.line_in-line.ensures.some_steps);
-      paid = omega (arith, kept.paid, c.line_in-line.ensures.cost);
+      way = went_on _ c.args.name.now whole (lines_from m t i (n - i)) (lines_from m t (i + 1) (n - (i + 1))) (line_at m t i) _ _ _ _ _ _ _ (lines_more m t i n l) kept.way writes;
+      held = room.writes.held;
+      faults = room.no_fault ∙ kept.faults;
+      misses = room.no_miss ∙ kept.misses;
+      write_faults = room.writes.counted.stays ∙ kept.write_faults;
+      least = omega (arith, kept.least, c.put_line.ensures.some_steps);
+      paid = omega (arith, kept.paid, c.put_line.ensures.cost);
     }
 
-pub returns-in_err-gather-2-clause-part : goal.returns-in_err-gather-2-clause-part
-returns-in_err-gather-2-clause-part g c =
+pub returns-in_err-make_room-clause-part : goal.returns-in_err-make_room-clause-part
+returns-in_err-make_room-clause-part g c =
     let m = contents_of_view c.args.served in
     let t = c.args.table in
-    let whole = table_text (served_map c.args.served) t in
-    let n = row_count m t in
     let i = c.loop-place.place in
-    let l : i < n = omega (arith, c.places-count.ensures.count) in
-    let is : c.as_slice.result.now ≡ c.line_in-line.result.items = search rules in
-    let split = lines_more m t i n l ∙ ap (λ (z : List ℕ). z ++ lines_from m t (i + 1) (n - (i + 1))) (sym (is ∙ c.line_in-line.ensures.line)) in
-    on_failure _ _ c.from_residual-in_err-gather-2.ensures.1
-    (stopped _ c.args.name.now whole (lines_from m t i (n - i)) (lines_from m t (i + 1) (n - (i + 1))) c.as_slice.result.now _ _ _ _ _ _ _ split c.loop-place.invariant.way c.in_err-gather-2.ensures.writes)
+    let left = lines_from m t i (row_count m t - i) in
+    on_failure _ _ c.from_residual-in_err-make_room.ensures.1
+    (stopped _ c.args.name.now (table_text (served_map c.args.served) t) left left [] _ _ _ _ _ _ _ refl c.loop-place.invariant.way c.in_err-make_room.ensures.writes)
 
-pub returns-in_err-gather-2-clause-counted : goal.returns-in_err-gather-2-clause-counted
-returns-in_err-gather-2-clause-counted g c =
-    counts_more {Y = ℕ} {F = ℕ} 0 _ _ _ _ (counts_same 0 _ _ c.loop-place.invariant.write_faults) (counts_failed _ _ _ _ _ c.from_residual-in_err-gather-2.ensures.1 c.in_err-gather-2.ensures.writes.counted)
+pub returns-in_err-make_room-clause-counted : goal.returns-in_err-make_room-clause-counted
+returns-in_err-make_room-clause-counted g c =
+    counts_more {Y = ℕ} {F = ℕ} 0 _ _ _ _ (counts_same 0 _ _ c.loop-place.invariant.write_faults) (counts_failed _ _ _ _ _ c.from_residual-in_err-make_room.ensures.1 c.in_err-make_room.ensures.writes.counted)
 
-pub returns-in_err-gather-2-clause-paid : goal.returns-in_err-gather-2-clause-paid
-returns-in_err-gather-2-clause-paid g c =
-    row_paid c.loop-place.place (row_count (contents_of_view c.args.served) c.args.table) (line_price (contents_of_view c.args.served) c.args.table) _ c.loop-place.steps _ (omega (arith, c.places-count.ensures.count)) c.loop-place.invariant.paid c.line_in-line.ensures.cost
+pub returns-in_err-make_room-clause-paid : goal.returns-in_err-make_room-clause-paid
+returns-in_err-make_room-clause-paid g c =
+    rows_paid c.loop-place.place (row_count (contents_of_view c.args.served) c.args.table) (line_price (contents_of_view c.args.served) c.args.table) _ _ (omega (arith, c.places-count.ensures.count)) c.loop-place.invariant.paid
 
 pub returns-clause-written : goal.returns-clause-written
 returns-clause-written g c =
