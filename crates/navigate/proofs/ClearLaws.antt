@@ -1,5 +1,5 @@
 -- Which marks are left where those of a list are taken away one by one, and the places that a walk keeps.
-use Rattle.std.specs.Prelude.{not, map, ◌==◌, ◌||◌, ◌&&◌, if◌then◌else◌, take, drop, slice_set}
+use Rattle.std.specs.Prelude.{not, map, ◌==◌, ◌&&◌, if◌then◌else◌, take, drop, slice_set}
 use Rattle.std.proofs.Common.{◌≡◌, ℕ, zero, suc, ◌+◌, ◌<◌, ◌≤◌, inl, inr, Bool, true, false, List, [], ◌∷◌, ◌++◌, length, get_or, refl, ap, sym, ◌∙◌, arith}
 use Rattle.std.proofs.lemmas.Bool.{cases_Bool, eq-eqb, or_cases, or_left, or_right}
 use Rattle.std.proofs.lemmas.List.{drop_more, take_more_set}

@@ -1,6 +1,6 @@
 -- How a walk to the faces across a ring goes on, and what was given of it.
 use Rattle.std.specs.Prelude.{not, filter, map, ◌==◌, ◌||◌, if◌then◌else◌, take, drop}
-use Rattle.std.proofs.Common.{◌≡◌, ℕ, zero, suc, ◌+◌, ◌*◌, ◌<◌, ◌≤◌, inl, inr, Bool, true, false, List, [], ◌∷◌, ◌++◌, length, refl, ap, sym, ◌∙◌, arith, subst, length-drop}
+use Rattle.std.proofs.Common.{◌≡◌, ℕ, zero, suc, ◌+◌, ◌*◌, ◌<◌, ◌≤◌, inl, inr, Bool, true, List, [], ◌∷◌, ◌++◌, length, refl, ap, sym, ◌∙◌, arith, subst, length-drop}
 use Rattle.std.proofs.lemmas.Bool.{cases_Bool, or_cases, or_left, or_right}
 use Rattle.std.proofs.Math.Nat.{mul-le-mul_left}
 use Rattle.std.proofs.lemmas.List.{map-append}

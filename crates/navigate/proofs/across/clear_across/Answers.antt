@@ -1,4 +1,4 @@
-use Rattle.std.proofs.Common.{refl, arith, ◌∙◌, ap, ◌≡◌, length}
+use Rattle.std.proofs.Common.{arith, ◌∙◌, ap, ◌≡◌, length}
 use Rattle.scratch_region.specs.Marks.{is_marked}
 use Rattle.file_laws.specs.Contents.{Contents}
 use Rattle.navigate.specs.Bound.{line_digits}

@@ -1,5 +1,5 @@
 use Rattle.std.specs.Prelude.{map, take}
-use Rattle.std.proofs.Common.{arith, sym, ◌∙◌, ap, subst, ◌≡◌, ◌<◌, ◌≤◌, ◌*◌, ℕ, true, length}
+use Rattle.std.proofs.Common.{arith, sym, ◌∙◌, ap, subst, ◌≡◌, ◌<◌, ◌*◌, ℕ, true, length}
 use Rattle.scratch_region.specs.Marks.{is_marked}
 use Rattle.plane_model.specs.Sets.{has}
 use Rattle.file_laws.specs.Contents.{Contents}
