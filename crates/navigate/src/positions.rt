@@ -46,12 +46,12 @@ pub fn mate_of<C: Ledger>(served: Served<'_>, p: usize, steps: &mut Steps<C>) ->
 fn edge_with<C: Ledger>(
     served: Served<'_>,
     number: usize,
-    is_first: bool,
+    first: bool,
     steps: &mut Steps<C>,
 ) -> Signed
     requires { number < length (contents_of_view served).edges }
     ensures edge { (p : ℕ) → number ≡ edge_of (contents_of_view served.entry).code p
-        → is_first ≡ is_first (contents_of_view served.entry).code p
+        → first ≡ is_first (contents_of_view served.entry).code p
         → result ≡ signed_at (contents_of_view served.entry) p }
     ensures some_steps { steps.old + 1 ≤ steps.new }
     ensures cost { steps.new ≤ steps.old + (3 * line_digits (contents_of_view served.entry) + 21) }
@@ -60,7 +60,7 @@ fn edge_with<C: Ledger>(
     let edges = served.edges();
     let _count = edges.count();
     let id = edges.id_of(number, steps);
-    with_direction(id, is_first == forward)
+    with_direction(id, first == forward)
 }
 
 /// The signed edge of a position.

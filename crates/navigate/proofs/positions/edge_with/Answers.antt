@@ -23,7 +23,7 @@ with_direction-requires g c =
 pub returns-clause-edge : goal.returns-clause-edge
 returns-clause-edge g c = λ p number first.
     let m = contents_of_view c.args.served in
-    edge_is m p c.args.number c.id_of-id.result c.args.is_first c.forward-forward.result c.with_direction.result number
+    edge_is m p c.args.number c.id_of-id.result c.args.first c.forward-forward.result c.with_direction.result number
     (c.id_of-id.ensures.id ∙ ap (λ (xs : List ℕ). slice_index xs c.args.number) c.edges-edges.ensures)
     first c.forward-forward.ensures.forward c.with_direction.ensures
 
