@@ -5,7 +5,7 @@ ghost use Rattle.std.specs.Prelude.{◌≡◌, ◌<◌, ◌≤◌, length};
 use crate::{Found, hop_walk};
 use bit_words::Steps;
 use image_words::{bytes_of, island};
-use pemb_file::open;
+use pemb_file::{Served, open};
 use scratch_region::Region;
 use std::alloc::Global;
 use std::marker::Brand;
@@ -195,9 +195,10 @@ fn walk_between<C: Ledger>(
     requires few { length lent.old ≤ 64 }
 {
     let mut steps = Steps::<C>::new(alloc, blank);
-    let Ok(served) = open(bytes, &mut steps) else {
+    let Ok(file) = open(bytes, &mut steps) else {
         return Seen::NoFile;
     };
+    let served = Served::of(&file);
     let room = Region::new(lent);
     match hop_walk(served, FaceId(from), FaceId(to), room, &mut steps) {
         Found::Walk(mut walk) => Seen::Moves(

@@ -28,16 +28,16 @@ fn gathered<C: Ledger>(
     ensures grows { steps.old ≤ steps.new }
 {
     let counts = served.counts();
-    let code = served.code();
+    let code = *served.code();
     let tree = tree_bits(alloc, code, counts.tree_edges, steps)?;
     let first = first_bits(alloc, code, steps)?;
     let starts = starts(alloc, code, counts.components, steps)?;
     let forward = forward_bits(alloc, served, steps)?;
-    let names = served.nodes();
+    let names = *served.nodes();
     let nodes = ids(alloc, names, steps)?;
-    let names = served.edges();
+    let names = *served.edges();
     let edges = ids(alloc, names, steps)?;
-    let names = served.faces();
+    let names = *served.faces();
     let faces = ids(alloc, names, steps)?;
     let places = component_places(alloc, served, steps)?;
     let place_order = component_order(alloc, served, steps)?;

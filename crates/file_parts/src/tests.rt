@@ -5,7 +5,7 @@ ghost use Rattle.std.specs.Prelude.{◌≡◌, ◌<◌};
 use crate::{parts_of, upgraded};
 use bit_words::Steps;
 use image_words::{bytes_of, island, old_island, old_triangle, triangle};
-use pemb_file::{open, write_image};
+use pemb_file::{Served, open, write_image};
 use std::alloc::Global;
 use std::marker::Brand;
 use std::sync::ledger::{Blank, Ledger};
@@ -18,7 +18,8 @@ fn rewritten_counted<C: Ledger>(alloc: Global, bytes: &[u8], blank: Blank) -> Op
     requires some { 0 < blank.parts }
 {
     let mut steps = Steps::<C>::new(alloc, blank);
-    let served = open(bytes, &mut steps).ok()?;
+    let file = open(bytes, &mut steps).ok()?;
+    let served = Served::of(&file);
     let parts = parts_of(alloc, served, &mut steps).ok()?;
     write_image(alloc, &parts).ok()
 }
@@ -30,7 +31,8 @@ fn upgraded_counted<C: Ledger>(alloc: Global, bytes: &[u8], blank: Blank) -> Opt
     requires some { 0 < blank.parts }
 {
     let mut steps = Steps::<C>::new(alloc, blank);
-    let served = open(bytes, &mut steps).ok()?;
+    let file = open(bytes, &mut steps).ok()?;
+    let served = Served::of(&file);
     upgraded(alloc, served, &mut steps).ok()
 }
 

@@ -15,6 +15,7 @@ mod making;
 mod name_parts;
 mod packing;
 mod place_words;
+mod range_counts;
 mod rising_ids;
 mod rising_words;
 mod sorted;

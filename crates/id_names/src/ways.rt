@@ -2,7 +2,8 @@
 //!
 //! It counts places from which a walk surely comes to a number: those on the way from a mark to the next one, if that
 //! one points back, and those in a short cycle without a mark. No place is counted twice, so where as many are counted
-//! as there are numbers, no place is missing, and no two numbers have one place.
+//! as there are numbers, no place is missing, and no two numbers have one place. Short cycles are few, so they are looked
+//! for where ways did not pass all numbers.
 
 ghost use Rattle.std.specs.Prelude.{◌≡◌, ◌<◌, ◌≤◌, ◌+◌, ◌*◌, length, true, false, IfSome, None, slice_index_or};
 ghost use Rattle.bit_words.specs.Digits.{digits};
@@ -14,6 +15,7 @@ ghost use Rattle.id_names.specs.PartViews.{number_in};
 ghost use Rattle.id_names.specs.Ways.{IsWay, IsShortCycle, IsOnWay, IsOnCycle, AreMany};
 
 use crate::inverse::{Inverse, binary_digits};
+use crate::range_counts::RangeCounts;
 use bit_words::Steps;
 use std::sync::ledger::Ledger;
 
@@ -31,7 +33,12 @@ fn pointer<C: Ledger>(inverse: Inverse<'_>, number: usize, steps: &mut Steps<C>)
 
 /// How many steps lead from a mark to the next one. 0 where the number is no mark, None where the next one points back
 /// to another number, or is too far away.
-fn way<C: Ledger>(inverse: Inverse<'_>, mark: usize, steps: &mut Steps<C>) -> Option<usize>
+fn way<C: Ledger>(
+    inverse: Inverse<'_>,
+    mark: usize,
+    seen: &mut RangeCounts,
+    steps: &mut Steps<C>,
+) -> Option<usize>
     requires within { mark < length (fields_of inverse.places) }
     ensures way { IfSome result (λ count. 1 ≤ count → IsWay (fields_of inverse.entry.places)
         (counted inverse.entry.marks) (fields_of inverse.entry.back) mark count) }
@@ -49,6 +56,7 @@ fn way<C: Ledger>(inverse: Inverse<'_>, mark: usize, steps: &mut Steps<C>) -> Op
         if number >= inverse.places.count() {
             return None;
         }
+        seen.see(number);
         if inverse.marks.bits().bit(number, steps) {
             if pointer(inverse, number, steps) != mark {
                 return None;
@@ -90,7 +98,11 @@ fn short_cycle<C: Ledger>(inverse: Inverse<'_>, least: usize, steps: &mut Steps<
 }
 
 /// How many places are on ways from marks, or None where one of these isn't right.
-fn on_ways<C: Ledger>(inverse: Inverse<'_>, steps: &mut Steps<C>) -> Option<usize>
+fn on_ways<C: Ledger>(
+    inverse: Inverse<'_>,
+    seen: &mut RangeCounts,
+    steps: &mut Steps<C>,
+) -> Option<usize>
     ensures many { IfSome result (λ count. AreMany (IsOnWay (fields_of inverse.entry.places)
         (counted inverse.entry.marks) (fields_of inverse.entry.back) (length (fields_of inverse.entry.places))) count) }
     ensures few { IfSome result (λ count. count ≤ 64 * length (fields_of inverse.entry.places)) }
@@ -100,13 +112,38 @@ fn on_ways<C: Ledger>(inverse: Inverse<'_>, steps: &mut Steps<C>) -> Option<usiz
 {
     let mut count = 0;
     for mark in 0..inverse.places.count() {
-        count += way(inverse, mark, steps)?;
+        count += way(inverse, mark, seen, steps)?;
     }
     Some(count)
 }
 
+/// The same as `short_cycle`, with no search where all numbers of the range were seen.
+fn unseen_cycle<C: Ledger>(
+    inverse: Inverse<'_>,
+    least: usize,
+    seen: &RangeCounts,
+    steps: &mut Steps<C>,
+) -> Option<usize>
+    requires within { least < length (fields_of inverse.places) }
+    ensures cycle { IfSome result (λ count. 1 ≤ count → IsShortCycle (fields_of inverse.entry.places)
+        (counted inverse.entry.marks) least count) }
+    ensures few { IfSome result (λ count. count ≤ 65) }
+    ensures grows { steps.old ≤ steps.new }
+    ensures cost { steps.new ≤ steps.old + 3 * digits (length (fields_of inverse.entry.places) + 2) + 3 }
+{
+    if seen.may_lack(least) {
+        short_cycle(inverse, least, steps)
+    } else {
+        Some(0)
+    }
+}
+
 /// How many places are in short cycles without a mark, or None where one of these isn't right.
-fn on_cycles<C: Ledger>(inverse: Inverse<'_>, steps: &mut Steps<C>) -> Option<usize>
+fn on_cycles<C: Ledger>(
+    inverse: Inverse<'_>,
+    seen: &RangeCounts,
+    steps: &mut Steps<C>,
+) -> Option<usize>
     ensures many { IfSome result (λ count. AreMany (IsOnCycle (fields_of inverse.entry.places)
         (counted inverse.entry.marks) (fields_of inverse.entry.back) (length (fields_of inverse.entry.places))) count) }
     ensures few { IfSome result (λ count. count ≤ 65 * length (fields_of inverse.entry.places)) }
@@ -116,7 +153,7 @@ fn on_cycles<C: Ledger>(inverse: Inverse<'_>, steps: &mut Steps<C>) -> Option<us
 {
     let mut count = 0;
     for least in 0..inverse.places.count() {
-        count += short_cycle(inverse, least, steps)?;
+        count += unseen_cycle(inverse, least, seen, steps)?;
     }
     Some(count)
 }
@@ -130,10 +167,11 @@ pub(crate) fn all_found<C: Ledger>(inverse: Inverse<'_>, steps: &mut Steps<C>) -
     ensures cost { steps.new ≤ steps.old + length (fields_of inverse.entry.places)
         * (6 * digits (length (fields_of inverse.entry.places) + 2) + 15) }
 {
-    let Some(ways) = on_ways(inverse, steps) else {
+    let mut seen = RangeCounts::over(inverse.places.count());
+    let Some(ways) = on_ways(inverse, &mut seen, steps) else {
         return false;
     };
-    let Some(cycles) = on_cycles(inverse, steps) else {
+    let Some(cycles) = on_cycles(inverse, &seen, steps) else {
         return false;
     };
     ways + cycles == inverse.places.count()

@@ -6,7 +6,7 @@ use crate::{BuildFault, build};
 use bit_words::Steps;
 use image_words::{bytes_of, island, triangle};
 use map_maker::grid;
-use pemb_file::{Counts, open};
+use pemb_file::{Counts, Served, open};
 use plane_model::Tables;
 use std::alloc::Global;
 use std::marker::Brand;
@@ -76,7 +76,8 @@ fn counts_counted<C: Ledger>(alloc: Global, bytes: &[u8], blank: Blank) -> Optio
     requires some { 0 < blank.parts }
 {
     let mut steps = Steps::<C>::new(alloc, blank);
-    Some(open(bytes, &mut steps).ok()?.counts())
+    let file = open(bytes, &mut steps).ok()?;
+    Some(Served::of(&file).counts())
 }
 
 /// The numbers of nodes, edges, faces without face 0, and components of the image of these tables.

@@ -82,9 +82,10 @@ fn closes_after_each<C: Ledger>(alloc: Global, bytes: &[u8], blank: Blank) -> bo
     requires some { 0 < blank.parts }
 {
     let mut steps = Steps::<C>::new(alloc, blank);
-    let Ok(served) = open(bytes, &mut steps) else {
+    let Ok(file) = open(bytes, &mut steps) else {
         return false;
     };
+    let served = Served::of(&file);
     let mut lent = [u64::MAX; 1];
     let Ok((mut marks, _left)) = Region::new(&mut lent).carve(1) else {
         return false;

@@ -87,9 +87,10 @@ fn first_wrong<C: Ledger>(
     requires some { 0 < blank.parts }
 {
     let mut steps = Steps::<C>::new(alloc, blank);
-    let Ok(served) = open(bytes, &mut steps) else {
+    let Ok(file) = open(bytes, &mut steps) else {
         return Ok(Some(0));
     };
+    let served = Served::of(&file);
     for part in 0..147_u32 {
         let face = part.saturating_mul(7);
         let moves = moves_between(alloc, served, IdNumber::from(face), 437, &mut steps)?;
@@ -119,9 +120,10 @@ fn moves_over_holes<C: Ledger>(
     requires some { 0 < blank.parts }
 {
     let mut steps = Steps::<C>::new(alloc, blank);
-    let Ok(served) = open(bytes, &mut steps) else {
+    let Ok(file) = open(bytes, &mut steps) else {
         return Ok([None; 4]);
     };
+    let served = Served::of(&file);
     let apart = moves_between(alloc, served, 2, 10_001, &mut steps)?;
     let from_outside = moves_between(alloc, served, 0, 5_000, &mut steps)?;
     let beside = moves_between(alloc, served, 10_001, 1, &mut steps)?;

@@ -5,7 +5,7 @@ ghost use Rattle.std.specs.Prelude.{◌≡◌, ◌<◌};
 use crate::maps::web_image;
 use bit_words::Steps;
 use navigate::{face_walk, node_walk, ring_edges};
-use pemb_file::open;
+use pemb_file::{Served, open};
 use std::alloc::Global;
 use std::marker::Brand;
 use std::sync::ledger::{Blank, Ledger};
@@ -49,9 +49,10 @@ fn give_their_lists<C: Ledger, D: Ledger>(
     requires other_some { 0 < other.parts }
 {
     let mut steps = Steps::<C>::new(alloc, blank);
-    let Ok(served) = open(bytes, &mut steps) else {
+    let Ok(file) = open(bytes, &mut steps) else {
         return false;
     };
+    let served = Served::of(&file);
     let Some(edge) = Signed::new(-21) else {
         return false;
     };

@@ -145,9 +145,10 @@ fn agree<C: Ledger>(alloc: Global, edges: &[EdgeRow], bytes: &[u8], blank: Blank
     requires some { 0 < blank.parts }
 {
     let mut steps = Steps::<C>::new(alloc, blank);
-    let Ok(served) = open(bytes, &mut steps) else {
+    let Ok(file) = open(bytes, &mut steps) else {
         return false;
     };
+    let served = Served::of(&file);
     for node in NODES {
         if !agree_in_turn(served, edges, -1, node, 880, &mut steps) {
             return false;

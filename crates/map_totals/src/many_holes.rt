@@ -55,9 +55,10 @@ fn has_ten_thousand_holes<C: Ledger>(alloc: Global, bytes: &[u8], blank: Blank) 
     requires some { 0 < blank.parts }
 {
     let mut steps = Steps::<C>::new(alloc, blank);
-    let Ok(served) = open(bytes, &mut steps) else {
+    let Ok(file) = open(bytes, &mut steps) else {
         return false;
     };
+    let served = Served::of(&file);
     walks_along_holes(served, &mut steps) && walks_over_holes(served, &mut steps)
 }
 

@@ -6,7 +6,7 @@ use crate::maps::grid_image;
 use crate::{Totals, totals};
 use bit_words::Steps;
 use image_words::{bytes_of, triangle};
-use pemb_file::open;
+use pemb_file::{Served, open};
 use scratch_region::Region;
 use std::alloc::Global;
 use std::marker::Brand;
@@ -20,7 +20,8 @@ fn totals_twice<C: Ledger>(alloc: Global, bytes: &[u8], blank: Blank) -> Option<
     requires some { 0 < blank.parts }
 {
     let mut steps = Steps::<C>::new(alloc, blank);
-    let served = open(bytes, &mut steps).ok()?;
+    let file = open(bytes, &mut steps).ok()?;
+    let served = Served::of(&file);
     let mut lent = [u64::MAX; 32];
     let Ok((mut marks, _left)) = Region::new(&mut lent).carve(32) else {
         return None;

@@ -1,5 +1,6 @@
 pub mod Bound
 pub mod Least
+pub mod KeptStops
 pub mod OrbitWalk
 pub mod Holes
 pub mod FaceWalk

@@ -13,7 +13,7 @@ use crate::face_rings::FaceWalk;
 use crate::names;
 use crate::orbit_walk::OrbitWalk;
 use crate::places::components_below;
-use crate::search::smallest_from;
+use crate::search::begun_at_smallest;
 use bit_words::Steps;
 use pemb_file::Served;
 use std::sync::ledger::Ledger;
@@ -61,8 +61,7 @@ fn shell_walk<'a, C: Ledger>(
     let Some(p) = served.code().first_of_shell((place - 1) as u32, steps) else {
         unreachable!()
     };
-    let start = smallest_from(served, false, p, steps);
-    OrbitWalk::from(served, false, start)
+    begun_at_smallest(served, false, p, steps)
 }
 
 /// The walk along the rings of a face: its shell from the smallest signed edge on, which face 0 has not, and then each

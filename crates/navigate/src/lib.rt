@@ -10,6 +10,7 @@ mod face_rings;
 mod faces;
 mod inside;
 mod islands;
+mod kept_stops;
 mod look_ups;
 mod names;
 mod neighbours;

@@ -2,12 +2,15 @@
 
 ghost use Rattle.std.specs.Prelude.{◌<◌, length};
 ghost use Rattle.pemb_file.specs.Served.{contents_of_view};
+ghost use Rattle.navigate.specs.KeptStops.{AreKept};
 
+use crate::kept_stops::KeptStops;
 use crate::positions;
 use bit_words::Steps;
 use pemb_file::Served;
 use std::sync::ledger::Ledger;
 use topo_base::Signed;
+use turan_code::Stop;
 
 /// A walk round a node or a ring: what is left of it, from a position on until it comes back to the first.
 #[derive(Clone, Copy)]
@@ -21,7 +24,10 @@ pub struct OrbitWalk<'a> {
     at: usize,
     /// How many positions may be left: none at the end.
     left: usize,
+    /// What stands at the first positions that it came by.
+    kept: KeptStops,
     ghost within: { 0 < left → at < length (contents_of_view served).code.a },
+    ghost right: { AreKept (contents_of_view served).code kind kept },
 }
 
 /// The signed edges that leave a node, clockwise.
@@ -38,12 +44,14 @@ impl<'a> OrbitWalk<'a> {
     ghost use Rattle.file_laws.specs.MapOfFile.{signed_at};
     ghost use Rattle.pemb_file.specs.Served.{contents_of_view};
     ghost use Rattle.navigate.specs.Bound.{line_digits};
+    ghost use Rattle.navigate.specs.KeptStops.{IsStop};
     ghost use Rattle.navigate.specs.OrbitWalk.{contents_in, positions_left, rest, price, allowance};
 
     /// The walk that begins at a position and ends before it.
     pub(crate) fn from(served: Served<'a>, kind: bool, p: usize) -> OrbitWalk<'a>
         requires { p < length (contents_of_view served).code.a }
         ensures contents { contents_in result ≡ contents_of_view served.entry }
+        ensures kind { result.kind ≡ kind }
         ensures positions { positions_left result ≡ orbit (contents_of_view served.entry).code kind p }
     {
         OrbitWalk {
@@ -52,6 +60,25 @@ impl<'a> OrbitWalk<'a> {
             first: p,
             at: p,
             left: served.code().len(),
+            kept: KeptStops::none(),
+        }
+    }
+
+    /// The same walk begun anew, at a position.
+    pub(crate) fn anew(self, p: usize) -> OrbitWalk<'a>
+        requires { p < length (contents_in self).code.a }
+        ensures contents { contents_in result ≡ contents_in self.entry }
+        ensures positions { positions_left result ≡ orbit (contents_in self.entry).code self.entry.kind p }
+    {
+        let mut kept = self.kept;
+        kept.turn_to(p);
+        OrbitWalk {
+            served: self.served,
+            kind: self.kind,
+            first: p,
+            at: p,
+            left: self.served.code().len(),
+            kept,
         }
     }
 
@@ -66,6 +93,7 @@ impl<'a> OrbitWalk<'a> {
             first: 0,
             at: 0,
             left: 0,
+            kept: KeptStops::none(),
         }
     }
 
@@ -85,6 +113,7 @@ impl<'a> OrbitWalk<'a> {
         requires within { next < length (contents_in self.old).code.a }
         requires next { next ≡ codes.step (contents_in self.old).code self.old.kind self.old.at }
         ensures contents { contents_in self.new ≡ contents_in self.old }
+        ensures kind { self.new.kind ≡ self.old.kind }
         ensures left { positions_left self.old ≡ self.old.at ∷ positions_left self.new }
     {
         if next == self.first {
@@ -114,9 +143,30 @@ impl<'a> OrbitWalk<'a> {
         Some(p)
     }
 
+    /// What stands at the next position.
+    fn look<C: Ledger>(&mut self, steps: &mut Steps<C>) -> Stop
+        requires { 0 < self.old.left }
+        ensures same { (self.new.at ≡ self.old.at) × (self.new.left ≡ self.old.left) }
+        ensures positions { positions_left self.new ≡ positions_left self.old }
+        ensures contents { contents_in self.new ≡ contents_in self.old }
+        ensures kind { self.new.kind ≡ self.old.kind }
+        ensures stop { IsStop (contents_in self.old).code self.old.kind self.old.at result }
+        ensures grows { steps.old ≤ steps.new }
+        ensures cost { steps.new ≤ steps.old + (13 * line_digits (contents_in self.old) + 116) }
+    {
+        let p = self.at;
+        if let Some(stop) = self.kept.pass(p) {
+            return stop;
+        }
+        let stop = self.served.code().stop(self.kind, p, steps);
+        self.kept.keep(p, stop);
+        stop
+    }
+
     /// The next position and its signed edge, or None at the end.
     pub(crate) fn stop<C: Ledger>(&mut self, steps: &mut Steps<C>) -> Option<(usize, Signed)>
         ensures contents { contents_in self.new ≡ contents_in self.old }
+        ensures kind { self.new.kind ≡ self.old.kind }
         ensures next { MatchOption result (positions_left self.old ≡ [])
             (λ found. positions_left self.old ≡ found.0 ∷ positions_left self.new) }
         ensures edge { IfSome result (λ found. found.1 ≡ signed_at (contents_in self.old) found.0) }
@@ -129,8 +179,9 @@ impl<'a> OrbitWalk<'a> {
             return None;
         }
         let p = self.at;
-        let (edge, next) = positions::stop_at(self.served, self.kind, p, steps);
-        self.go_on(next);
+        let stop = self.look(steps);
+        let edge = positions::edge_with(self.served, stop.edge as usize, stop.is_first, steps);
+        self.go_on(stop.next);
         Some((p, edge))
     }
 

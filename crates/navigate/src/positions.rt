@@ -43,7 +43,7 @@ pub fn mate_of<C: Ledger>(served: Served<'_>, p: usize, steps: &mut Steps<C>) ->
 }
 
 /// The signed edge of the edge of a number: that of its first position, or that of the other one.
-fn edge_with<C: Ledger>(
+pub(crate) fn edge_with<C: Ledger>(
     served: Served<'_>,
     number: usize,
     first: bool,
@@ -73,26 +73,6 @@ pub fn edge_at<C: Ledger>(served: Served<'_>, p: usize, steps: &mut Steps<C>) ->
     let code = served.code();
     let (number, is_first) = code.edge_and_side(p, steps);
     edge_with(served, number as usize, is_first, steps)
-}
-
-/// The signed edge of a position, and the next position of its orbit: round its node, or round its ring.
-pub fn stop_at<C: Ledger>(
-    served: Served<'_>,
-    kind: bool,
-    p: usize,
-    steps: &mut Steps<C>,
-) -> (Signed, usize)
-    requires { p < length (contents_of_view served).code.a }
-    ensures edge { result.0 ≡ signed_at (contents_of_view served.entry) p }
-    ensures next { result.1 ≡ step (contents_of_view served.entry).code kind p }
-    ensures within { result.1 < length (contents_of_view served.entry).code.a }
-    ensures some_steps { steps.old + 1 ≤ steps.new }
-    ensures cost { steps.new ≤ steps.old + (16 * line_digits (contents_of_view served.entry) + 137) }
-{
-    let code = served.code();
-    let stop = code.stop(kind, p, steps);
-    let edge = edge_with(served, stop.edge as usize, stop.is_first, steps);
-    (edge, stop.next)
 }
 
 /// The first position of a signed edge's edge, and whether it is the signed edge's own. None where the map lacks the

@@ -9,7 +9,7 @@ ghost use Rattle.navigate.specs.Least.{smallest_of, from_smallest};
 ghost use Rattle.navigate.specs.OrbitWalk.{contents_in, rest, allowance};
 
 use crate::orbit_walk::{NodeWalk, OrbitWalk, RingWalk};
-use crate::search::smallest_from;
+use crate::search::begun_at_smallest;
 use crate::{names, positions};
 use bit_words::Steps;
 use pemb_file::Served;
@@ -32,8 +32,7 @@ fn walk_from_smallest<'a, C: Ledger>(
     ensures paid { steps.new + allowance result
         ≤ steps.old + 512 * line_digits (contents_of_view served.entry) * length (rest result) }
 {
-    let first = smallest_from(served, kind, p, steps);
-    OrbitWalk::from(served, kind, first)
+    begun_at_smallest(served, kind, p, steps)
 }
 
 /// The walk round a node, from the smallest signed edge that leaves it on: none round an isolated node. None where the

@@ -1,26 +1,29 @@
-//! The smallest signed edge of an orbit.
+//! The walk round an orbit from its smallest signed edge on.
 
 ghost use Rattle.std.specs.Prelude.{◌≡◌, ◌<◌, ◌≤◌, ◌+◌, ◌*◌, length};
 ghost use Rattle.code_laws.specs.Orbits.{orbit};
 ghost use Rattle.pemb_file.specs.Served.{contents_of_view};
 ghost use Rattle.navigate.specs.Least.{smallest_of};
-ghost use Rattle.navigate.specs.OrbitWalk.{price};
+ghost use Rattle.navigate.specs.OrbitWalk.{contents_in, positions_left, price};
 
 use crate::orbit_walk::OrbitWalk;
 use bit_words::Steps;
 use pemb_file::Served;
 use std::sync::ledger::Ledger;
 
-/// The position of the smallest signed edge of the orbit of `p`, by a walk of its own.
-pub fn smallest_from<C: Ledger>(
-    served: Served<'_>,
+/// The walk round the orbit of `p` from its smallest signed edge on, which a first walk round finds.
+pub(crate) fn begun_at_smallest<'a, C: Ledger>(
+    served: Served<'a>,
     kind: bool,
     p: usize,
     steps: &mut Steps<C>,
-) -> usize
+) -> OrbitWalk<'a>
     requires { p < length (contents_of_view served).code.a }
-    ensures smallest { result ≡ smallest_of (contents_of_view served.entry) kind p }
-    ensures within { result < length (contents_of_view served.entry).code.a }
+    ensures contents { contents_in result ≡ contents_of_view served.entry }
+    ensures positions { positions_left result ≡ orbit (contents_of_view served.entry).code kind
+        (smallest_of (contents_of_view served.entry) kind p) }
+    ensures within { smallest_of (contents_of_view served.entry) kind p
+        < length (contents_of_view served.entry).code.a }
     ensures some_steps { steps.old + 1 ≤ steps.new }
     ensures cost { steps.new ≤ steps.old + price (contents_of_view served.entry)
         * length (orbit (contents_of_view served.entry).code kind p) }
@@ -34,5 +37,5 @@ pub fn smallest_from<C: Ledger>(
             best = found;
         }
     }
-    best.0
+    walk.anew(best.0)
 }

@@ -30,7 +30,8 @@ fn stepped_in_turn<C: Ledger>(
     requires some { 0 < blank.parts }
 {
     let mut steps = Steps::<C>::new(alloc, blank);
-    let served = open(bytes, &mut steps).ok()?;
+    let file = open(bytes, &mut steps).ok()?;
+    let served = Served::of(&file);
     let mut node = node_walk(served, NodeId(1), &mut steps)?;
     let mut ring = ring_walk(served, Signed::new(-2)?, &mut steps)?;
     let mut face = face_walk(served, FaceId(1), &mut steps)?;
@@ -74,7 +75,8 @@ fn look_ups<C: Ledger>(alloc: Global, bytes: &[u8], blank: Blank) -> Option<Look
     requires some { 0 < blank.parts }
 {
     let mut steps = Steps::<C>::new(alloc, blank);
-    let served = open(bytes, &mut steps).ok()?;
+    let file = open(bytes, &mut steps).ok()?;
+    let served = Served::of(&file);
     let one = Signed::new(1)?;
     Some(LookUps {
         next: next(served, one.reverse(), &mut steps),
@@ -92,7 +94,8 @@ fn islands<C: Ledger>(alloc: Global, bytes: &[u8], blank: Blank) -> Option<[Opti
     requires some { 0 < blank.parts }
 {
     let mut steps = Steps::<C>::new(alloc, blank);
-    let served = open(bytes, &mut steps).ok()?;
+    let file = open(bytes, &mut steps).ok()?;
+    let served = Served::of(&file);
     let mut walk = island_walk(served, FaceId(0), &mut steps)?;
     Some([walk.step(&mut steps), walk.step(&mut steps)])
 }
@@ -104,7 +107,8 @@ fn ring_of_one<C: Ledger>(alloc: Global, bytes: &[u8], blank: Blank) -> Option<[
     requires some { 0 < blank.parts }
 {
     let mut counter = Steps::<C>::new(alloc, blank);
-    let served = open(bytes, &mut counter).ok()?;
+    let file = open(bytes, &mut counter).ok()?;
+    let served = Served::of(&file);
     let mut edges = ring_edges(served, Signed::new(1)?, counter)?;
     Some([edges.next(), edges.next(), edges.next(), edges.next()])
 }
@@ -141,7 +145,8 @@ fn neighbours<C: Ledger>(
     requires some { 0 < blank.parts }
 {
     let mut steps = Steps::<C>::new(alloc, blank);
-    let served = open(bytes, &mut steps).ok()?;
+    let file = open(bytes, &mut steps).ok()?;
+    let served = Served::of(&file);
     let mut lent = [0; 1];
     let Ok((mut marks, _left)) = Region::new(&mut lent).carve(1) else {
         return None;
@@ -177,7 +182,8 @@ fn regions_up<C: Ledger>(
     requires some { 0 < blank.parts }
 {
     let mut steps = Steps::<C>::new(alloc, blank);
-    let served = open(bytes, &mut steps).ok()?;
+    let file = open(bytes, &mut steps).ok()?;
+    let served = Served::of(&file);
     Some([
         three_up(served, FaceId(0), &mut steps),
         three_up(served, FaceId(1), &mut steps),
@@ -197,7 +203,8 @@ fn shared<C: Ledger>(
     requires some { 0 < blank.parts }
 {
     let mut steps = Steps::<C>::new(alloc, blank);
-    let served = open(bytes, &mut steps).ok()?;
+    let file = open(bytes, &mut steps).ok()?;
+    let served = Served::of(&file);
     Some([
         common(served, FaceId(0), FaceId(1), &mut steps),
         common(served, FaceId(1), FaceId(1), &mut steps),

@@ -5,7 +5,7 @@ ghost use Rattle.std.specs.Prelude.{◌≡◌, ◌<◌};
 use crate::border_text;
 use bit_words::Steps;
 use image_words::{bytes_of, island};
-use pemb_file::open;
+use pemb_file::{Served, open};
 use std::alloc::{AllocError, Global};
 use std::marker::Brand;
 use std::sync::ledger::{Blank, Ledger};
@@ -20,9 +20,10 @@ fn are_told<C: Ledger>(alloc: Global, bytes: &[u8], blank: Blank) -> Result<bool
     requires some { 0 < blank.parts }
 {
     let mut steps = Steps::<C>::new(alloc, blank);
-    let Ok(served) = open(bytes, &mut steps) else {
+    let Ok(file) = open(bytes, &mut steps) else {
         return Ok(false);
     };
+    let served = Served::of(&file);
     let inner = border_text(alloc, served, RegionId(2), &mut steps)?;
     let outer = border_text(alloc, served, RegionId(1), &mut steps)?;
     let unknown = border_text(alloc, served, RegionId(9), &mut steps)?;

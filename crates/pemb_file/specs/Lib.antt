@@ -1,4 +1,5 @@
 pub mod Parts
+pub mod OpenFile
 pub mod Served
 pub mod Form
 pub mod Header

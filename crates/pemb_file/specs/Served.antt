@@ -1,21 +1,15 @@
--- What a lawful file's views stand for.
+-- What a lawful file says.
 use Rattle.std.specs.Prelude.{◌≡◌, length}
-use Rattle.bit_words.specs.BitView.{bits_of}
-use Rattle.bit_words.specs.PackedView.{fields_of}
-use Rattle.parens.specs.ParenView.{parens_of}
-use Rattle.turan_code.specs.TuranView.{code_of_view}
-use Rattle.id_names.specs.Views.{ids_of}
-use Rattle.file_laws.specs.Contents.{Contents, component_count, contents_with}
+use Rattle.file_laws.specs.Contents.{Contents, component_count}
 use Rattle.code_laws.specs.Numbers.{tree_edges}
 use Rattle.region_tree.specs.RegionView.{Regions}
+use Rattle.pemb_file.specs.OpenFile.{contents_of_file}
 use Rattle.pemb_file.specs.declared.counts.Counts.{Counts}
 use Rattle.pemb_file.specs.declared.served.Served.{Served}
 
--- what the sections of a lawful file hold
+-- what the sections of the file hold
 abbrev pub contents_of_view : Served → Contents
-contents_of_view s =
-    contents_with (code_of_view s.code) (bits_of s.forward) (ids_of s.nodes) (ids_of s.edges) (ids_of s.faces) (ids_of s.regions)
-    (fields_of s.places) (fields_of s.place_order) (fields_of s.isolated) (parens_of s.region_tree) (fields_of s.members)
+contents_of_view s = contents_of_file s.file.now
 
 -- the regions of these contents, by number
 abbrev pub regions_in : Contents → Regions

@@ -7,6 +7,7 @@ mod header;
 mod image;
 mod layout;
 mod name_sections;
+mod open_file;
 mod opening;
 mod parts;
 mod places;
@@ -16,6 +17,7 @@ mod writing;
 
 pub use counts::Counts;
 pub use file_laws::FileFault;
+pub use open_file::OpenFile;
 pub use opening::open;
 pub use parts::ImageParts;
 pub use served::Served;

@@ -16,13 +16,13 @@ ghost use Rattle.pemb_file.specs.Parens.{HasParens};
 ghost use Rattle.file_laws.specs.Faults.{front_fault, digest_fault, count_fault, directories_fault, names_fault, all_names_fault, places_fault, start_fault, regions_fault};
 ghost use Rattle.plane_model.specs.Sets.{or_else};
 ghost use Rattle.file_laws.specs.Lawful.{first_fault, content_fault, is_whole, file_size};
-ghost use Rattle.pemb_file.specs.Served.{contents_of_view};
+ghost use Rattle.pemb_file.specs.OpenFile.{contents_of_file};
 ghost use Rattle.pemb_file.specs.Checked.{Finds};
 
 use crate::header::open_header;
 use crate::image::Image;
+use crate::open_file::OpenFile;
 use crate::places::Placed;
-use crate::served::Served;
 use bit_words::Steps;
 use file_laws::FileFault;
 use id_names::NamesView;
@@ -96,14 +96,14 @@ fn check_placed<C: Ledger>(
 }
 
 /// The views of an image without fault.
-fn served<'a>(image: &Image<'a>, code: TuranView<'a>) -> Served<'a>
+fn open_file<'a>(image: &Image<'a>, code: TuranView<'a>) -> OpenFile<'a>
     requires code { code_of_view code ≡ (contents_of (view_words image.now.words)).code }
     requires names { all_names_fault (view_words image.now.words) ≡ None }
     requires regions { regions_fault (view_words image.now.words) (contents_of (view_words image.now.words)) ≡ None }
     requires whole { IsTrue (is_whole (contents_of (view_words image.now.words))) }
-    ensures { contents_of_view result ≡ contents_of (view_words image.now.words) }
+    ensures { contents_of_file result ≡ contents_of (view_words image.now.words) }
 {
-    Served::new(
+    OpenFile::new(
         code,
         image.bits(10),
         names_view(image, 30),
@@ -119,9 +119,12 @@ fn served<'a>(image: &Image<'a>, code: TuranView<'a>) -> Served<'a>
 }
 
 /// The views of an image, or the first fault in what its sections hold.
-fn content<'a, C: Ledger>(image: &Image<'a>, steps: &mut Steps<C>) -> Result<Served<'a>, FileFault>
+fn content<'a, C: Ledger>(
+    image: &Image<'a>,
+    steps: &mut Steps<C>,
+) -> Result<OpenFile<'a>, FileFault>
     ensures fault { Finds (content_fault (view_words image.now.words)) result }
-    ensures contents { IfOk result (λ s. contents_of_view s ≡ contents_of (view_words image.now.words)) }
+    ensures contents { IfOk result (λ s. contents_of_file s ≡ contents_of (view_words image.now.words)) }
     ensures grows { steps.old ≤ steps.new }
     ensures cost { steps.new ≤ steps.old + placed_cost (counts_in (view_words image.now.words))
         + all_names_cost (counts_in (view_words image.now.words)) + 42 * (counts_in (view_words image.now.words)).edges
@@ -134,13 +137,13 @@ fn content<'a, C: Ledger>(image: &Image<'a>, steps: &mut Steps<C>) -> Result<Ser
     check_placed(image, code, steps)?;
     image.check_regions(steps)?;
     image.check_padding(steps)?;
-    Ok(served(image, code))
+    Ok(open_file(image, code))
 }
 
 /// The views of a lawful file, or the first fault of one that is not.
-pub fn open<'a, C: Ledger>(bytes: &'a [u8], steps: &mut Steps<C>) -> Result<Served<'a>, FileFault>
+pub fn open<'a, C: Ledger>(bytes: &'a [u8], steps: &mut Steps<C>) -> Result<OpenFile<'a>, FileFault>
     ensures fault { Finds (first_fault bytes.now) result }
-    ensures contents { IfOk result (λ s. contents_of_view s ≡ contents_of (words_of bytes.now)) }
+    ensures contents { IfOk result (λ s. contents_of_file s ≡ contents_of (words_of bytes.now)) }
     ensures cost { steps.new ≤ steps.old + 1024 * digits (file_size (counts_in (words_of bytes.now)))
         * ((file_size (counts_in (words_of bytes.now))) + 2) }
     ensures few_words { IsSome (or_else (front_fault bytes.now) (or_else (digest_fault bytes.now)

@@ -1,134 +1,84 @@
-//! A lawful file as views, and what it says.
+//! What an open file says.
 
 ghost use Rattle.std.specs.Prelude.{IsTrue};
-ghost use Rattle.bit_words.specs.BitView.{bits_of};
-ghost use Rattle.bit_words.specs.PackedView.{fields_of};
-ghost use Rattle.parens.specs.ParenView.{parens_of};
-ghost use Rattle.turan_code.specs.TuranView.{code_of_view};
-ghost use Rattle.id_names.specs.Views.{ids_of};
-ghost use Rattle.file_laws.specs.Contents.{contents_with};
 ghost use Rattle.file_laws.specs.Lawful.{is_whole};
+ghost use Rattle.pemb_file.specs.OpenFile.{contents_of_file};
 
 use crate::counts::Counts;
-use bit_words::{BitView, PackedView, Steps};
+use crate::open_file::OpenFile;
+use bit_words::Steps;
 use id_names::NamesView;
-use parens::ParenView;
 use region_tree::RegionView;
 use std::sync::ledger::Ledger;
 use turan_code::TuranView;
 
-/// A lawful file: views of its sections, whose contents are whole.
+/// What an open file says. It is a reference to the file, so handing it on copies nothing.
 #[derive(Clone, Copy)]
 pub struct Served<'a> {
-    code: TuranView<'a>,
-    forward: BitView<'a>,
-    nodes: NamesView<'a>,
-    edges: NamesView<'a>,
-    faces: NamesView<'a>,
-    regions: NamesView<'a>,
-    places: PackedView<'a>,
-    place_order: PackedView<'a>,
-    isolated: PackedView<'a>,
-    region_tree: ParenView<'a>,
-    members: PackedView<'a>,
-    ghost whole: { IsTrue (is_whole (contents_with (code_of_view code) (bits_of forward) (ids_of nodes) (ids_of edges)
-        (ids_of faces) (ids_of regions) (fields_of places) (fields_of place_order) (fields_of isolated)
-        (parens_of region_tree) (fields_of members))) },
+    file: &'a OpenFile<'a>,
+    ghost whole: { IsTrue (is_whole (contents_of_file file.now)) },
 }
 
 impl<'a> Served<'a> {
     ghost use Rattle.std.specs.Prelude.{◌≡◌, ◌<◌, ◌≤◌, ◌+◌, length, slice_index, slice_index_or, false, IsTrue};
     ghost use Rattle.turan_code.specs.TuranView.{code_of_view};
     ghost use Rattle.id_names.specs.Views.{ids_of};
-    ghost use Rattle.bit_words.specs.BitView.{bits_of};
-    ghost use Rattle.bit_words.specs.PackedView.{fields_of};
-    ghost use Rattle.parens.specs.ParenView.{parens_of};
-    ghost use Rattle.file_laws.specs.Contents.{contents_with};
     ghost use Rattle.file_laws.specs.Lawful.{is_whole};
     ghost use Rattle.region_tree.specs.RegionView.{regions_of};
+    ghost use Rattle.pemb_file.specs.OpenFile.{contents_of_file};
     ghost use Rattle.pemb_file.specs.Served.{contents_of_view, regions_in, AreCounts};
 
-    /// These views, whose contents are whole.
-    pub(crate) fn new(
-        code: TuranView<'a>,
-        forward: BitView<'a>,
-        nodes: NamesView<'a>,
-        edges: NamesView<'a>,
-        faces: NamesView<'a>,
-        regions: NamesView<'a>,
-        places: PackedView<'a>,
-        place_order: PackedView<'a>,
-        isolated: PackedView<'a>,
-        region_tree: ParenView<'a>,
-        members: PackedView<'a>,
-    ) -> Served<'a>
-        requires { IsTrue (is_whole (contents_with (code_of_view code) (bits_of forward) (ids_of nodes) (ids_of edges)
-            (ids_of faces) (ids_of regions) (fields_of places) (fields_of place_order) (fields_of isolated)
-            (parens_of region_tree) (fields_of members))) }
-        ensures { contents_of_view result ≡ contents_with (code_of_view code.entry) (bits_of forward.entry)
-            (ids_of nodes.entry) (ids_of edges.entry) (ids_of faces.entry) (ids_of regions.entry)
-            (fields_of places.entry) (fields_of place_order.entry) (fields_of isolated.entry)
-            (parens_of region_tree.entry) (fields_of members.entry) }
+    /// What this file says.
+    pub fn of(file: &'a OpenFile<'a>) -> Served<'a>
+        ensures { contents_of_view result ≡ contents_of_file file.now }
     {
-        Served {
-            code,
-            forward,
-            nodes,
-            edges,
-            faces,
-            regions,
-            places,
-            place_order,
-            isolated,
-            region_tree,
-            members,
-        }
+        Served { file }
     }
 
     /// How many nodes, edges, faces, components and regions there are.
     pub fn counts(&self) -> Counts
         ensures { AreCounts (contents_of_view self.now) result }
     {
-        let edges = self.edges.count() as u32;
-        let faces = self.faces.count() as u32;
+        let edges = self.file.edges.count() as u32;
+        let faces = self.file.faces.count() as u32;
         Counts {
-            nodes: self.nodes.count() as u32,
+            nodes: self.file.nodes.count() as u32,
             edges,
             tree_edges: edges - faces,
             faces,
-            components: self.places.count() as u32,
-            isolated: self.isolated.count() as u32,
-            regions: self.regions.count() as u32,
+            components: self.file.places.count() as u32,
+            isolated: self.file.isolated.count() as u32,
+            regions: self.file.regions.count() as u32,
         }
     }
 
     /// The code: which edge a position has, and the steps between positions.
-    pub fn code(&self) -> TuranView<'a>
-        ensures code { code_of_view result ≡ (contents_of_view self.now).code }
+    pub fn code(&self) -> &'a TuranView<'a>
+        ensures code { code_of_view result.now ≡ (contents_of_view self.now).code }
         ensures whole { IsTrue (is_whole (contents_of_view self.now)) }
     {
-        self.code
+        &self.file.code
     }
 
     /// The ids of nodes by number.
-    pub fn nodes(&self) -> NamesView<'a>
-        ensures { ids_of result ≡ (contents_of_view self.now).nodes }
+    pub fn nodes(&self) -> &'a NamesView<'a>
+        ensures { ids_of result.now ≡ (contents_of_view self.now).nodes }
     {
-        self.nodes
+        &self.file.nodes
     }
 
     /// The ids of edges by number.
-    pub fn edges(&self) -> NamesView<'a>
-        ensures { ids_of result ≡ (contents_of_view self.now).edges }
+    pub fn edges(&self) -> &'a NamesView<'a>
+        ensures { ids_of result.now ≡ (contents_of_view self.now).edges }
     {
-        self.edges
+        &self.file.edges
     }
 
     /// The ids of faces other than 0, by the number of their shell.
-    pub fn faces(&self) -> NamesView<'a>
-        ensures { ids_of result ≡ (contents_of_view self.now).faces }
+    pub fn faces(&self) -> &'a NamesView<'a>
+        ensures { ids_of result.now ≡ (contents_of_view self.now).faces }
     {
-        self.faces
+        &self.file.faces
     }
 
     /// Whether the first position of an edge is the forward one.
@@ -137,7 +87,7 @@ impl<'a> Served<'a> {
         ensures forward { result ≡ slice_index_or (contents_of_view self.now).forward edge false }
         ensures one_step { steps.new ≡ steps.old + 1 }
     {
-        self.forward.bit(edge, steps)
+        self.file.forward.bit(edge, steps)
     }
 
     /// The place of a component: 0 for face 0, and else 1 + the number of the face that contains it.
@@ -147,7 +97,7 @@ impl<'a> Served<'a> {
         ensures some_steps { steps.old + 1 ≤ steps.new }
         ensures few_steps { steps.new ≤ steps.old + 2 }
     {
-        self.places.field(component, steps) as u32
+        self.file.places.field(component, steps) as u32
     }
 
     /// The component at a place of the order by place and then by the signed edge at the start.
@@ -157,7 +107,7 @@ impl<'a> Served<'a> {
         ensures some_steps { steps.old + 1 ≤ steps.new }
         ensures few_steps { steps.new ≤ steps.old + 2 }
     {
-        self.place_order.field(j, steps) as u32
+        self.file.place_order.field(j, steps) as u32
     }
 
     /// The place of an isolated node.
@@ -167,13 +117,13 @@ impl<'a> Served<'a> {
         ensures some_steps { steps.old + 1 ≤ steps.new }
         ensures few_steps { steps.new ≤ steps.old + 2 }
     {
-        self.isolated.field(j, steps) as u32
+        self.file.isolated.field(j, steps) as u32
     }
 
     /// The regions, and for face 0 and each face by number the one that it is in. No word is read.
     pub fn regions(&self) -> RegionView<'a>
         ensures { regions_of result ≡ regions_in (contents_of_view self.now) }
     {
-        RegionView::new(self.region_tree, self.regions, self.members)
+        RegionView::new(self.file.region_tree, self.file.regions, self.file.members)
     }
 }

@@ -126,8 +126,8 @@ fn examined_counted<C: Ledger>(alloc: Global, bytes: &[u8], blank: Blank) -> Opt
     requires some { 0 < blank.parts }
 {
     let mut steps = Steps::<C>::new(alloc, blank);
-    let served = open(bytes, &mut steps).ok()?;
-    Some(examined(served, &mut steps))
+    let file = open(bytes, &mut steps).ok()?;
+    Some(examined(Served::of(&file), &mut steps))
 }
 
 #[test]

@@ -61,7 +61,8 @@ fn three_walks<C: Ledger>(alloc: Global, bytes: &[u8], blank: Blank) -> Option<[
     requires some { 0 < blank.parts }
 {
     let mut steps = Steps::<C>::new(alloc, blank);
-    let served = open(bytes, &mut steps).ok()?;
+    let file = open(bytes, &mut steps).ok()?;
+    let served = Served::of(&file);
     let mut lent = [7; 1];
     let Ok((mut marks, _left)) = Region::new(&mut lent).carve(1) else {
         return None;

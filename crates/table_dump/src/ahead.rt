@@ -62,13 +62,13 @@ pub(crate) fn read_ahead<'r, C: Ledger>(
         unreachable!()
     };
     match table {
-        Table::Node => put_by_rank(served.nodes(), &mut ahead, steps),
+        Table::Node => put_by_rank(*served.nodes(), &mut ahead, steps),
         Table::Edge => {
             let (ids, room) = read_ids(served, room, steps);
-            let mut tour = Tour::new(served.code(), room);
+            let mut tour = Tour::new(*served.code(), room);
             fill_ends(served, &ids, &mut tour, &mut ahead, steps);
         }
-        Table::Member => put_by_rank(served.faces(), &mut ahead, steps),
+        Table::Member => put_by_rank(*served.faces(), &mut ahead, steps),
         Table::Face | Table::Region => {}
     }
     ahead

@@ -109,9 +109,9 @@ pub(crate) fn read_ids<'r, C: Ledger>(
 {
     let counts = served.counts();
     let joined = (counts.nodes - counts.isolated) as usize;
-    let (nodes, room) = first_ids(served.nodes(), joined, room, steps);
-    let (edges, room) = first_ids(served.edges(), counts.edges as usize, room, steps);
-    let (faces, room) = first_ids(served.faces(), counts.faces as usize, room, steps);
+    let (nodes, room) = first_ids(*served.nodes(), joined, room, steps);
+    let (edges, room) = first_ids(*served.edges(), counts.edges as usize, room, steps);
+    let (faces, room) = first_ids(*served.faces(), counts.faces as usize, room, steps);
     (
         Ids {
             nodes,

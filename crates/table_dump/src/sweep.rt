@@ -71,19 +71,19 @@ fn face_beside<C: Ledger>(
 /// Puts what stands at a position to its end. What a sweep keeps of it, if its component begins with it.
 fn put_position<C: Ledger>(
     served: Served<'_>,
-    edges: NamesView<'_>,
+    edges: &NamesView<'_>,
     ids: &Ids<'_>,
     passed: Passed,
     ends: &mut Numbers<'_>,
     steps: &mut Steps<C>,
 ) -> Behind
-    requires edges { ids_of edges ≡ (contents_of_view served).edges }
+    requires edges { ids_of edges.now ≡ (contents_of_view served).edges }
     requires ids { AreIds (contents_of_view served) ids.now }
     requires passed { IsSomewhere (contents_of_view served) passed }
     requires room { length (numbers_of ends.old) ≡ 6 * length (contents_of_view served).edges }
     ensures put { (p : ℕ) → p < length (contents_of_view served.entry).code.a
         → IsPassed (contents_of_view served.entry).code p passed
-        → IsPut (contents_of_view served.entry) edges.entry p (numbers_of ends.old) (numbers_of ends.new) result }
+        → IsPut (contents_of_view served.entry) edges.now p (numbers_of ends.old) (numbers_of ends.new) result }
     ensures within { result.end < 2 * length (contents_of_view served.entry).edges }
     ensures room { length (numbers_of ends.new) ≡ length (numbers_of ends.old) }
     ensures some_steps { steps.old + 1 ≤ steps.new }
@@ -105,22 +105,22 @@ fn put_position<C: Ledger>(
 /// Puts what stands at a position that others stand before, and that its signed edge follows the one before it.
 fn put_next_position<C: Ledger>(
     served: Served<'_>,
-    edges: NamesView<'_>,
+    edges: &NamesView<'_>,
     ids: &Ids<'_>,
     passed: Passed,
     behind: Behind,
     ends: &mut Numbers<'_>,
     steps: &mut Steps<C>,
 ) -> Behind
-    requires edges { ids_of edges ≡ (contents_of_view served).edges }
+    requires edges { ids_of edges.now ≡ (contents_of_view served).edges }
     requires ids { AreIds (contents_of_view served) ids.now }
     requires passed { IsSomewhere (contents_of_view served) passed }
     requires room { length (numbers_of ends.old) ≡ 6 * length (contents_of_view served).edges }
     requires within { behind.end < 2 * length (contents_of_view served).edges }
     ensures swept { (p : ℕ) → p < length (contents_of_view served.entry).code.a
         → IsPassed (contents_of_view served.entry).code p passed
-        → AreSwept (contents_of_view served.entry) edges.entry p (numbers_of ends.old) behind
-        → AreSwept (contents_of_view served.entry) edges.entry (p + 1) (numbers_of ends.new) result }
+        → AreSwept (contents_of_view served.entry) edges.now p (numbers_of ends.old) behind
+        → AreSwept (contents_of_view served.entry) edges.now (p + 1) (numbers_of ends.new) result }
     ensures within { result.end < 2 * length (contents_of_view served.entry).edges }
     ensures room { length (numbers_of ends.new) ≡ length (numbers_of ends.old) }
     ensures grows { steps.old ≤ steps.new }

@@ -3,24 +3,25 @@
 ghost use Rattle.std.specs.Prelude.{◌≡◌, ◌≤◌, ◌<◌, ◌+◌, ◌*◌, IfOk, IsTrue, length};
 ghost use Rattle.plane_model.specs.PlaneMap.{map_of};
 ghost use Rattle.file_laws.specs.Lawful.{is_lawful, map_of_file};
+ghost use Rattle.pemb_file.specs.OpenFile.{contents_of_file};
 ghost use Rattle.pemb_file.specs.Served.{contents_of_view};
-ghost use Rattle.navigate.specs.Bound.{served_map};
+ghost use Rattle.navigate.specs.Bound.{map_with};
 ghost use Rattle.topo_cli.specs.Outcome.{words_to_open};
 
 use bit_words::Steps;
-use pemb_file::{Served, open};
+use pemb_file::{OpenFile, Served, open};
 use std::alloc::{AllocError, Global};
 use std::sync::ledger::Ledger;
 
-/// The views of an image that is lawful.
-pub fn open_image<'a, L: Ledger>(image: &'a [u8], steps: &mut Steps<L>) -> Served<'a>
+/// An image that is lawful, opened.
+pub fn open_image<'a, L: Ledger>(image: &'a [u8], steps: &mut Steps<L>) -> OpenFile<'a>
     requires lawful { IsTrue (is_lawful image.now) }
-    ensures map { served_map result ≡ map_of (map_of_file image.now) }
+    ensures map { map_with (contents_of_file result) ≡ map_of (map_of_file image.now) }
     ensures most { steps.new ≤ steps.old + words_to_open (map_of (map_of_file image.now)) }
     ensures grows { steps.old ≤ steps.new }
 {
     match open(image, steps) {
-        Ok(served) => served,
+        Ok(opened) => opened,
         Err(_) => unreachable!(),
     }
 }

@@ -20,7 +20,7 @@ use crate::trial::{grid_image, trial_lines};
 use bit_words::Steps;
 use file_parts::upgraded;
 use outline_text::border_text;
-use pemb_file::open;
+use pemb_file::{Served, open};
 use ports::{Failed, Shelf, Sink, Source};
 use std::alloc::Global;
 use std::sync::ledger::Ledger;
@@ -76,7 +76,8 @@ fn ask<H: Shelf, S: Source, K: Sink, L: Ledger>(
         Ok(image) => image,
         Err(fault) => return end_loading(alloc, fault, out),
     };
-    let served = open_image(&image, steps);
+    let opened = open_image(&image, steps);
+    let served = Served::of(&opened);
     serve_script(alloc, served, script, out, steps)
 }
 
@@ -98,7 +99,8 @@ fn build_file<H: Shelf, K: Sink, L: Ledger>(
         Ok(image) => image,
         Err(why) => return end_loading(alloc, why, out),
     };
-    let served = open_image(&image, steps);
+    let opened = open_image(&image, steps);
+    let served = Served::of(&opened);
     let line = match line_of_counts(alloc, "built", &served) {
         Ok(line) => line,
         Err(_) => return Status::Memory,
@@ -128,7 +130,7 @@ fn query_file<H: Shelf, S: Source, K: Sink, L: Ledger>(
         Err(why) => return end_loading(alloc, why, out),
     };
     match open(&bytes, steps) {
-        Ok(served) => serve_script(alloc, served, script, out, steps),
+        Ok(opened) => serve_script(alloc, Served::of(&opened), script, out, steps),
         Err(why) => end_loading(alloc, LoadFault::Unlawful(why), out),
     }
 }
@@ -149,10 +151,11 @@ fn check_file<H: Shelf, K: Sink, L: Ledger>(
         Ok(bytes) => bytes,
         Err(why) => return end_loading(alloc, why, out),
     };
-    let served = match open(&bytes, steps) {
-        Ok(served) => served,
+    let opened = match open(&bytes, steps) {
+        Ok(opened) => opened,
         Err(why) => return end_loading(alloc, LoadFault::Unlawful(why), out),
     };
+    let served = Served::of(&opened);
     match line_of_counts(alloc, "lawful", &served) {
         Ok(line) => tell(out, &line, Status::Done),
         Err(_) => Status::Memory,
@@ -178,10 +181,11 @@ fn hops<H: Shelf, K: Sink, L: Ledger>(
         Ok(bytes) => bytes,
         Err(why) => return end_loading(alloc, why, out),
     };
-    let served = match open(&bytes, steps) {
-        Ok(served) => served,
+    let opened = match open(&bytes, steps) {
+        Ok(opened) => opened,
         Err(why) => return end_loading(alloc, LoadFault::Unlawful(why), out),
     };
+    let served = Served::of(&opened);
     match hops_line(alloc, served, from, to, steps) {
         Ok(line) => tell(out, &line, Status::Done),
         Err(_) => Status::Memory,
@@ -205,10 +209,11 @@ fn border<H: Shelf, K: Sink, L: Ledger>(
         Ok(bytes) => bytes,
         Err(why) => return end_loading(alloc, why, out),
     };
-    let served = match open(&bytes, steps) {
-        Ok(served) => served,
+    let opened = match open(&bytes, steps) {
+        Ok(opened) => opened,
         Err(why) => return end_loading(alloc, LoadFault::Unlawful(why), out),
     };
+    let served = Served::of(&opened);
     match border_text(alloc, served, region, steps) {
         Ok(text) => tell(out, &text, Status::Done),
         Err(_) => Status::Memory,
@@ -233,10 +238,11 @@ fn upgrade<H: Shelf, K: Sink, L: Ledger>(
         Ok(bytes) => bytes,
         Err(why) => return end_loading(alloc, why, out),
     };
-    let served = match open(&bytes, steps) {
-        Ok(served) => served,
+    let opened = match open(&bytes, steps) {
+        Ok(opened) => opened,
         Err(why) => return end_loading(alloc, LoadFault::Unlawful(why), out),
     };
+    let served = Served::of(&opened);
     let line = match line_of_counts(alloc, "upgraded", &served) {
         Ok(line) => line,
         Err(_) => return Status::Memory,
@@ -269,10 +275,11 @@ fn dump<H: Shelf, K: Sink, L: Ledger>(
         Ok(bytes) => bytes,
         Err(why) => return end_loading(alloc, why, out),
     };
-    let served = match open(&bytes, steps) {
-        Ok(served) => served,
+    let opened = match open(&bytes, steps) {
+        Ok(opened) => opened,
         Err(why) => return end_loading(alloc, LoadFault::Unlawful(why), out),
     };
+    let served = Served::of(&opened);
     let line = match line_of_counts(alloc, "dumped", &served) {
         Ok(line) => line,
         Err(_) => return Status::Memory,
@@ -303,7 +310,8 @@ fn trial<K: Sink, L: Ledger>(alloc: Global, size: u32, out: &mut K, steps: &mut 
         Ok(image) => image,
         Err(why) => return end_loading(alloc, why, out),
     };
-    let served = open_image(&image, steps);
+    let opened = open_image(&image, steps);
+    let served = Served::of(&opened);
     match trial_lines(alloc, size, served, steps) {
         Ok(text) => tell(out, &text, Status::Done),
         Err(_) => Status::Memory,

@@ -8,7 +8,7 @@ mod hostile_scripts;
 use crate::{ServeFault, serve};
 use bit_words::Steps;
 use image_words::{bytes_of, island, old_island, triangle};
-use pemb_file::open;
+use pemb_file::{Served, open};
 use ports::{MemorySink, MemorySource};
 use scratch_region::Region;
 use std::alloc::Global;
@@ -30,14 +30,15 @@ fn served<C: Ledger>(
 {
     let mut steps = Steps::<C>::new(alloc, blank);
     let file = open(bytes, &mut steps).ok()?;
+    let served = Served::of(&file);
     let mut words = [0; 1];
     let Ok((mut marks, _rest)) = Region::new(&mut words).carve(1) else {
         return None;
     };
-    if file.faces().count() >= marks.room() {
+    if served.faces().count() >= marks.room() {
         return None;
     }
-    Some(serve(file, &mut marks, script, out, &mut steps))
+    Some(serve(served, &mut marks, script, out, &mut steps))
 }
 
 /// Each form once, one of them twice, and lines that are none.

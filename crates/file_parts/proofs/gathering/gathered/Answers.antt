@@ -21,7 +21,7 @@ starts-requires g c =
 pub returns-clause-contents : goal.returns-clause-contents
 returns-clause-contents g c =
     same_contents _ _ _ _ _ _ _ _ _ _ _ _ _ _ _ _ _ _ _ _ _ _
-    (walk_gathered (code_of_view c.code-code.result) c.code-code.result.sound c.in_ok-tree.tree.items c.in_ok-first.first.items c.in_ok-starts.starts.items c.in_ok-tree.ensures.tree c.in_ok-first.ensures.first c.in_ok-starts.ensures.starts
+    (walk_gathered (code_of_view c.code-code.result.now) c.code-code.result.now.sound c.in_ok-tree.tree.items c.in_ok-first.first.items c.in_ok-starts.starts.items c.in_ok-tree.ensures.tree c.in_ok-first.ensures.first c.in_ok-starts.ensures.starts
     ∙ c.code-code.ensures.code)
     c.in_ok-forward.ensures.forward
     (c.in_ok-nodes.ensures.ids ∙ c.nodes-names.ensures) (c.in_ok-edges.ensures.ids ∙ c.edges-names.ensures)
@@ -30,7 +30,7 @@ returns-clause-contents g c =
     (c.in_ok-region_bits.ensures.bits ∙ ap (λ (r : Regions). r.bits) c.regions-region_tree.ensures) c.in_ok-members.ensures.members
 
 pub returns-clause-walk : goal.returns-clause-walk
-returns-clause-walk g c = ap length c.in_ok-tree.ensures.tree ∙ firsts_many (code_of_view c.code-code.result) ∙ sym (ap length c.in_ok-first.ensures.first)
+returns-clause-walk g c = ap length c.in_ok-tree.ensures.tree ∙ firsts_many (code_of_view c.code-code.result.now) ∙ sym (ap length c.in_ok-first.ensures.first)
 
 pub returns-clause-first : goal.returns-clause-first
 returns-clause-first g c = c.in_ok-first.ensures.first ∙ ap firsts c.code-code.ensures.code

@@ -10,4 +10,4 @@ returns-clause-all g c all =
     let v = c.args.inverse in
     let ways = c.in-Some.ways in
     let cycles = c.in-Some-on_cycles.cycles in
-    all_counted (fields_of v.places) (counted v.marks) (fields_of v.back) ways cycles c.in-Some.ensures.many c.in-Some-on_cycles.ensures.many (eqb-true (ways + cycles) c.count.result all ∙ c.count.ensures)
+    all_counted (fields_of v.places) (counted v.marks) (fields_of v.back) ways cycles c.in-Some.ensures.many c.in-Some-on_cycles.ensures.many (eqb-true (ways + cycles) c.count-2.result all ∙ c.count-2.ensures)

@@ -27,7 +27,7 @@ returns-clause-node g c =
 
 pub returns-clause-cost : goal.returns-clause-cost
 returns-clause-cost g c =
-    let d = digits_view (contents_of_view c.args.served) c.args.served.whole (code_of_view c.code-code.result) c.code-code.ensures.code in
+    let d = digits_view (contents_of_view c.args.served) c.args.served.whole (code_of_view c.code-code.result.now) c.code-code.ensures.code in
     let k = digits_nodes (contents_of_view c.args.served) c.args.served.whole in
     let same = ap (λ (xs : List ℕ). digits (length xs + 2)) c.nodes.ensures in
     omega (arith, d, k, same, c.node_of-number.ensures.cost, c.id_of.ensures.cost)

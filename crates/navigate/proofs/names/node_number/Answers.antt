@@ -6,7 +6,7 @@ use Rattle.navigate.proofs.Facts.{digits_nodes, node_known}
 use Rattle.navigate.proofs.names.node_number.Goals as goal
 
 pub returns-clause-known : goal.returns-clause-known
-returns-clause-known g c = node_known (contents_of_view c.args.served) (ids_of c.nodes.result) c.args.node.0 c.number_of.result c.nodes.ensures c.number_of.ensures.found
+returns-clause-known g c = node_known (contents_of_view c.args.served) (ids_of c.nodes.result.now) c.args.node.0 c.number_of.result c.nodes.ensures c.number_of.ensures.found
 
 pub returns-clause-cost : goal.returns-clause-cost
 returns-clause-cost g c =

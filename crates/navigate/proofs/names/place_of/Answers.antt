@@ -7,7 +7,7 @@ use Rattle.navigate.proofs.names.place_of.Goals as goal
 
 pub returns-in-Some-clause-known : goal.returns-in-Some-clause-known
 returns-in-Some-clause-known g c =
-    known_face (contents_of_view c.args.served) c.args.served.whole (ids_of c.faces-faces.result) c.args.face.0 (Some c.in-Some.number) c.faces-faces.ensures c.if-face-eq0.false c.in-Some.ensures.found
+    known_face (contents_of_view c.args.served) c.args.served.whole (ids_of c.faces-faces.result.now) c.args.face.0 (Some c.in-Some.number) c.faces-faces.ensures c.if-face-eq0.false c.in-Some.ensures.found
 
 pub returns-in-Some-clause-cost : goal.returns-in-Some-clause-cost
 returns-in-Some-clause-cost g c =
@@ -17,7 +17,7 @@ returns-in-Some-clause-cost g c =
 
 pub returns-in-None-clause-known : goal.returns-in-None-clause-known
 returns-in-None-clause-known g c =
-    known_face (contents_of_view c.args.served) c.args.served.whole (ids_of c.faces-faces.result) c.args.face.0 None c.faces-faces.ensures c.if-face-eq0.false c.in-None.ensures.found
+    known_face (contents_of_view c.args.served) c.args.served.whole (ids_of c.faces-faces.result.now) c.args.face.0 None c.faces-faces.ensures c.if-face-eq0.false c.in-None.ensures.found
 
 pub returns-in-None-clause-cost : goal.returns-in-None-clause-cost
 returns-in-None-clause-cost g c =

@@ -1,4 +1,4 @@
-use Rattle.std.proofs.Common.{arith, ap, sym, ◌∙◌, ◌<◌, ◌≤◌, ◌≡◌, ◌-◌, ℕ, List, length, subst, Option, None}
+use Rattle.std.proofs.Common.{arith, ap, sym, ◌∙◌, ◌<◌, ◌≡◌, ◌-◌, ℕ, length, subst, Option}
 use Rattle.std.specs.Prelude.{slice_index, IsNone}
 use Rattle.turan_code.specs.TuranView.{code_of_view}
 use Rattle.code_laws.specs.Code.{Code, component_of}
@@ -40,7 +40,7 @@ returns-then-number-joined-clause-face g c =
 pub place-requires : goal.place-requires
 place-requires g c =
     let m = contents_of_view c.args.served in
-    component_in m c.args.served.whole (code_of_view c.code-code.result) c.component_of.result c.code-code.ensures.code c.component_of.ensures.within
+    component_in m c.args.served.whole (code_of_view c.code-code.result.now) c.component_of.result c.code-code.ensures.code c.component_of.ensures.within
 
 pub unreachable-requires : goal.unreachable-requires
 unreachable-requires g c =
@@ -53,7 +53,7 @@ unreachable-requires g c =
 pub returns-clause-within : goal.returns-clause-within
 returns-clause-within g c =
     let m = contents_of_view c.args.served in
-    let l = component_in m c.args.served.whole (code_of_view c.code-code.result) c.component_of.result c.code-code.ensures.code c.component_of.ensures.within in
+    let l = component_in m c.args.served.whole (code_of_view c.code-code.result.now) c.component_of.result c.code-code.ensures.code c.component_of.ensures.within in
     let p = outer_place m c.args.served.whole c.component_of.result l in
     omega (arith, p, c.place.ensures.place)
 
@@ -63,12 +63,12 @@ returns-clause-face g c =
     let code = c.code-code.ensures.code in
     let p = c.in-Some.p in
     let p_in = subst (λ (k : Code). p < length k.a) code c.in-Some.ensures.within in
-    let at = first_node m (code_of_view c.code-code.result) c.args.number p code c.in-Some.ensures.position in
+    let at = first_node m (code_of_view c.code-code.result.now) c.args.number p code c.in-Some.ensures.position in
     let component = c.component_of.ensures.component ∙ ap (λ (k : Code). component_of k p) code in
     joined_in m c.args.served.whole c.args.number p c.place.result c.requires (omega (arith, c.if-number-joined.false, c.counts-counts.ensures.nodes, c.counts-counts.ensures.isolated)) p_in at
     (c.place.ensures.place ∙ ap (slice_index m.places) component)
 
 pub returns-clause-cost : goal.returns-clause-cost
 returns-clause-cost g c =
-    let d = digits_view (contents_of_view c.args.served) c.args.served.whole (code_of_view c.code-code.result) c.code-code.ensures.code in
+    let d = digits_view (contents_of_view c.args.served) c.args.served.whole (code_of_view c.code-code.result.now) c.code-code.ensures.code in
     omega (arith, d, c.in-Some.ensures.cost, c.component_of.ensures.cost, c.place.ensures.few_steps)

@@ -7,7 +7,7 @@ use Rattle.navigate.proofs.Facts.{digits_view, edge_in}
 use Rattle.navigate.proofs.positions.edge_at.Goals as goal
 
 pub edge_with-requires : goal.edge_with-requires
-edge_with-requires g c = edge_in (contents_of_view c.args.served) c.args.served.whole (code_of_view c.code-code.result) c.edge_and_side-number.result.0 c.code-code.ensures.code c.edge_and_side-number.ensures.within
+edge_with-requires g c = edge_in (contents_of_view c.args.served) c.args.served.whole (code_of_view c.code-code.result.now) c.edge_and_side-number.result.0 c.code-code.ensures.code c.edge_and_side-number.ensures.within
 
 pub returns-clause-edge : goal.returns-clause-edge
 returns-clause-edge g c =
@@ -17,5 +17,5 @@ returns-clause-edge g c =
 
 pub returns-clause-cost : goal.returns-clause-cost
 returns-clause-cost g c =
-    let d = digits_view (contents_of_view c.args.served) c.args.served.whole (code_of_view c.code-code.result) c.code-code.ensures.code in
+    let d = digits_view (contents_of_view c.args.served) c.args.served.whole (code_of_view c.code-code.result.now) c.code-code.ensures.code in
     omega (arith, d, c.edge_and_side-number.ensures.cost, c.edge_with.ensures.cost)

@@ -12,7 +12,7 @@ use Rattle.std.specs.Prelude.{if◌then◌else◌}
 use Rattle.navigate.proofs.positions.first_position.Goals as goal
 
 pub returns-in_default-clause-known : goal.returns-in_default-clause-known
-returns-in_default-clause-known g c = edge_known (contents_of_view c.args.served) (ids_of c.edges.result) c.edge.result.0 c.args.edge None c.edges.ensures c.edge.ensures c.in_default.ensures.found
+returns-in_default-clause-known g c = edge_known (contents_of_view c.args.served) (ids_of c.edges.result.now) c.edge.result.0 c.args.edge None c.edges.ensures c.edge.ensures c.in_default.ensures.found
 
 pub returns-in_default-clause-cost : goal.returns-in_default-clause-cost
 returns-in_default-clause-cost g c =
@@ -24,7 +24,7 @@ pub unreachable-requires : goal.unreachable-requires
 unreachable-requires g c =
     let m = contents_of_view c.args.served in
     let many = ap (λ (xs : List ℕ). length xs) c.edges.ensures in
-    edge_missing m c.args.served.whole (code_of_view c.code-code.result) c.in-Some.number c.first_of_edge.result c.code-code.ensures.code c.in_default-first_of_edge.is c.first_of_edge.ensures.none (omega (arith, many, c.in-Some.ensures.found.0))
+    edge_missing m c.args.served.whole (code_of_view c.code-code.result.now) c.in-Some.number c.first_of_edge.result c.code-code.ensures.code c.in_default-first_of_edge.is c.first_of_edge.ensures.none (omega (arith, many, c.in-Some.ensures.found.0))
 
 pub forward-forward-requires : goal.forward-forward-requires
 forward-forward-requires g c =
@@ -33,20 +33,20 @@ forward-forward-requires g c =
     omega (arith, many, all, c.in-Some.ensures.found.0)
 
 pub returns-clause-known : goal.returns-clause-known
-returns-clause-known g c = edge_known (contents_of_view c.args.served) (ids_of c.edges.result) c.edge.result.0 c.args.edge (Some c.in-Some.number) c.edges.ensures c.edge.ensures c.in-Some.ensures.found
+returns-clause-known g c = edge_known (contents_of_view c.args.served) (ids_of c.edges.result.now) c.edge.result.0 c.args.edge (Some c.in-Some.number) c.edges.ensures c.edge.ensures c.in-Some.ensures.found
 
 pub returns-clause-edge : goal.returns-clause-edge
 returns-clause-edge g c =
     let m = contents_of_view c.args.served in
     ap (λ b. signed_at m (if beq c.forward-forward.result b then c.in-Some-first_of_edge.first else mate m.code c.in-Some-first_of_edge.first)) c.is_forward.ensures
-    ∙ first_edge m c.args.served.whole (code_of_view c.code-code.result) c.in-Some.number c.in-Some-first_of_edge.first c.forward-forward.result c.args.edge c.code-code.ensures.code
+    ∙ first_edge m c.args.served.whole (code_of_view c.code-code.result.now) c.in-Some.number c.in-Some-first_of_edge.first c.forward-forward.result c.args.edge c.code-code.ensures.code
     c.in-Some-first_of_edge.ensures.position c.forward-forward.ensures.forward (ap (λ (xs : List ℕ). slice_index xs c.in-Some.number) (sym c.edges.ensures) ∙ c.in-Some.ensures.found.1 ∙ c.edge.ensures)
 
 pub returns-clause-cost : goal.returns-clause-cost
 returns-clause-cost g c =
     let m = contents_of_view c.args.served in
     let d = digits_edges m c.args.served.whole in
-    let k = digits_view m c.args.served.whole (code_of_view c.code-code.result) c.code-code.ensures.code in
+    let k = digits_view m c.args.served.whole (code_of_view c.code-code.result.now) c.code-code.ensures.code in
     let same = ap (λ (xs : List ℕ). digits (length xs + 2)) c.edges.ensures in
     omega (arith, d, k, same, c.in-Some.ensures.cost, c.first_of_edge.ensures.cost, c.forward-forward.ensures.one_step)
 

@@ -6,5 +6,5 @@ use Rattle.navigate.proofs.positions.mate_of.Goals as goal
 
 pub returns-clause-cost : goal.returns-clause-cost
 returns-clause-cost g c =
-    let d = digits_view (contents_of_view c.args.served) c.args.served.whole (code_of_view c.code.result) c.code.ensures.code in
+    let d = digits_view (contents_of_view c.args.served) c.args.served.whole (code_of_view c.code.result.now) c.code.ensures.code in
     omega (arith, d, c.mate.ensures.cost)

@@ -21,7 +21,7 @@ returns-in-Outer-clause-within g c =
 
 pub returns-in-Outer-clause-cost : goal.returns-in-Outer-clause-cost
 returns-in-Outer-clause-cost g c =
-    let d = digits_view (contents_of_view c.args.served) c.args.served.whole (code_of_view c.code-code.result) c.code-code.ensures.code in
+    let d = digits_view (contents_of_view c.args.served) c.args.served.whole (code_of_view c.code-code.result.now) c.code-code.ensures.code in
     omega (arith, d, c.in-Outer.ensures.cost, c.place.ensures.few_steps)
 
 pub returns-in-Shell-clause-within : goal.returns-in-Shell-clause-within
@@ -32,5 +32,5 @@ returns-in-Shell-clause-within g c =
 
 pub returns-in-Shell-clause-cost : goal.returns-in-Shell-clause-cost
 returns-in-Shell-clause-cost g c =
-    let d = digits_view (contents_of_view c.args.served) c.args.served.whole (code_of_view c.code-code.result) c.code-code.ensures.code in
+    let d = digits_view (contents_of_view c.args.served) c.args.served.whole (code_of_view c.code-code.result.now) c.code-code.ensures.code in
     omega (arith, d, c.in-Shell.ensures.cost)

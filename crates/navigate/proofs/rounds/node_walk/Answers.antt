@@ -26,7 +26,7 @@ returns-in-Some-first_of_node-clause-list g c =
     let code = c.code.ensures.code in
     let p = c.in-Some-first_of_node.p in
     let p_in = subst (λ (k : Code). p < length k.a) code c.in-Some-first_of_node.ensures.within in
-    let at = first_node m (code_of_view c.code.result) c.in-Some.number p code c.in-Some-first_of_node.ensures.position in
+    let at = first_node m (code_of_view c.code.result.now) c.in-Some.number p code c.in-Some-first_of_node.ensures.position in
     c.walk_from_smallest.ensures.list ∙ node_list m c.args.served.whole p c.args.node.0 p_in c.walk_from_smallest.ensures.within (ap (slice_index m.nodes) at ∙ c.in-Some.ensures.found.1)
 
 pub returns-in-Some-first_of_node-clause-paid : goal.returns-in-Some-first_of_node-clause-paid
@@ -35,7 +35,7 @@ returns-in-Some-first_of_node-clause-paid g c =
     let d = some_digits m in
     let n = length (rest c.walk_from_smallest.result) in
     let words = words_line m c.args.served.whole n n in
-    let k = digits_view m c.args.served.whole (code_of_view c.code.result) c.code.ensures.code in
+    let k = digits_view m c.args.served.whole (code_of_view c.code.result.now) c.code.ensures.code in
     omega (arith, d, k, words, c.in-Some.ensures.cost, c.in-Some-first_of_node.ensures.cost, c.walk_from_smallest.ensures.paid)
 
 pub returns-in-None-clause-list : goal.returns-in-None-clause-list
@@ -52,7 +52,7 @@ returns-in-None-clause-paid g c =
     let d = some_digits m in
     let n = length (rest c.over.result) in
     let words = words_line m c.args.served.whole n n in
-    let k = digits_view m c.args.served.whole (code_of_view c.code.result) c.code.ensures.code in
+    let k = digits_view m c.args.served.whole (code_of_view c.code.result.now) c.code.ensures.code in
     let none = allowance-none c.over.result (rest-none c.over.result c.over.ensures.positions) in
     omega (arith, d, k, words, none, c.in-Some.ensures.cost, c.in-None.ensures.cost)
 

@@ -1,4 +1,4 @@
-use Rattle.std.proofs.Common.{◌∙◌, ◌<◌, ap, subst, length, ℕ}
+use Rattle.std.proofs.Common.{◌∙◌, ap, length}
 use Rattle.code_laws.specs.Orbits.{orbit}
 use Rattle.navigate.specs.Least.{smallest_of}
 use Rattle.pemb_file.specs.Served.{contents_of_view}
@@ -10,15 +10,13 @@ use Rattle.navigate.proofs.rounds.walk_from_smallest.Goals as goal
 pub returns-clause-list : goal.returns-clause-list
 returns-clause-list g c =
     let m = contents_of_view c.args.served in
-    rest-at c.from.result m (orbit m.code c.args.kind (smallest_of m c.args.kind c.args.p)) c.from.ensures.contents (c.from.ensures.positions ∙ ap (orbit m.code c.args.kind) c.smallest_from-first.ensures.smallest)
-
-pub returns-clause-within : goal.returns-clause-within
-returns-clause-within g c = subst (λ (x : ℕ). x < length (contents_of_view c.args.served).code.a) c.smallest_from-first.ensures.smallest c.smallest_from-first.ensures.within
+    let walk = c.begun_at_smallest in
+    rest-at walk.result m (orbit m.code c.args.kind (smallest_of m c.args.kind c.args.p)) walk.ensures.contents walk.ensures.positions
 
 pub returns-clause-paid : goal.returns-clause-paid
 returns-clause-paid g c =
     let m = contents_of_view c.args.served in
-    let list = rest-at c.from.result m (orbit m.code c.args.kind (smallest_of m c.args.kind c.args.p)) c.from.ensures.contents (c.from.ensures.positions ∙ ap (orbit m.code c.args.kind) c.smallest_from-first.ensures.smallest) in
-    let within = rw c.smallest_from-first.ensures.smallest at c.smallest_from-first.ensures.within in
-    let long = ap length list ∙ smallest-length m (sound_code m c.args.served.whole) c.args.kind c.args.p c.requires within in
-    making_paid c.from.result m (length (orbit m.code c.args.kind c.args.p)) c.args.steps.now c.smallest_from-first.new.steps c.from.ensures.contents long c.smallest_from-first.ensures.cost
+    let walk = c.begun_at_smallest in
+    let list = rest-at walk.result m (orbit m.code c.args.kind (smallest_of m c.args.kind c.args.p)) walk.ensures.contents walk.ensures.positions in
+    let long = ap length list ∙ smallest-length m (sound_code m c.args.served.whole) c.args.kind c.args.p c.requires walk.ensures.within in
+    making_paid walk.result m (length (orbit m.code c.args.kind c.args.p)) c.args.steps.now walk.new.steps walk.ensures.contents long walk.ensures.cost

@@ -30,8 +30,8 @@ check_placed-requires-clause-names g c = c.in_ok-check_all_names.ensures.fault
 pub returns-clause-fault : goal.returns-clause-fault
 returns-clause-fault g c = at-padding (view_words c.args.image.now.words) _ c.in_ok-check_code.ensures.fault c.in_ok-check_directories.ensures.fault c.in_ok-check_all_names.ensures.fault c.in_ok-check_placed.ensures.fault c.in_ok-check_regions.ensures.fault c.in_ok-check_padding.ensures.fault
 
-pub served-requires-clause-whole : goal.served-requires-clause-whole
-served-requires-clause-whole g c = whole_content (view_words c.args.image.now.words) c.args.image.now.few c.in_ok-check_code.ensures.fault c.in_ok-check_directories.ensures.fault c.in_ok-check_all_names.ensures.fault c.in_ok-check_placed.ensures.fault c.in_ok-check_regions.ensures.fault c.in_ok-check_padding.ensures.fault
+pub open_file-requires-clause-whole : goal.open_file-requires-clause-whole
+open_file-requires-clause-whole g c = whole_content (view_words c.args.image.now.words) c.args.image.now.few c.in_ok-check_code.ensures.fault c.in_ok-check_directories.ensures.fault c.in_ok-check_all_names.ensures.fault c.in_ok-check_placed.ensures.fault c.in_ok-check_regions.ensures.fault c.in_ok-check_padding.ensures.fault
 
 pub returns-in_err-check_code-clause-cost : goal.returns-in_err-check_code-clause-cost
 returns-in_err-check_code-clause-cost g c = let k = counts_fit (counts_in (view_words c.args.image.now.words)) c.args.image.now.few in omega (arith, k, c.in_err-check_code.ensures.cost)

@@ -1,4 +1,4 @@
-use Rattle.std.proofs.Common.{arith, sym, subst, refl, ◌≡◌, ◌<◌, ◌≤◌, ◌+◌, ◌*◌, ℕ, ℤ, length, Option}
+use Rattle.std.proofs.Common.{arith, sym, subst, refl, ◌*◌, ℤ, length, Option}
 use Rattle.std.specs.Prelude.{IsNone}
 use Rattle.scratch_region.specs.Marks.{is_marked}
 use Rattle.turan_code.specs.TuranView.{code_of_view}
@@ -15,7 +15,7 @@ loop-place-init g c = record { none = λ k a b. absurd (omega (arith, a, b)); gr
 pub fresh_at-requires-clause-place : goal.fresh_at-requires-clause-place
 fresh_at-requires-clause-place g c =
     let k = contents_of_view c.args.served in
-    let long = as_long k c.args.served.whole (code_of_view c.code.result) c.len-end.result c.code.ensures.code c.len-end.ensures.len in
+    let long = as_long k c.args.served.whole (code_of_view c.code.result.now) c.len-end.result c.code.ensures.code c.len-end.ensures.len in
     omega (arith, long, c.loop-place-test.true)
 
 pub loop-place-preserved : goal.loop-place-preserved
@@ -32,7 +32,7 @@ loop-place-preserved g c =
 pub returns-in-Some-clause-within : goal.returns-in-Some-clause-within
 returns-in-Some-clause-within g c =
     let k = contents_of_view c.args.served in
-    let long = as_long k c.args.served.whole (code_of_view c.code.result) c.len-end.result c.code.ensures.code c.len-end.ensures.len in
+    let long = as_long k c.args.served.whole (code_of_view c.code.result.now) c.len-end.result c.code.ensures.code c.len-end.ensures.len in
     (omega arith, omega (arith, long, c.loop-place-test.true))
 
 pub returns-in-Some-clause-passed : goal.returns-in-Some-clause-passed
@@ -46,13 +46,13 @@ returns-in-Some-clause-cost g c =
 pub returns-clause-none : goal.returns-clause-none
 returns-clause-none g c =
     let k = contents_of_view c.args.served in
-    let long = as_long k c.args.served.whole (code_of_view c.code.result) c.len-end.result c.code.ensures.code c.len-end.ensures.len in
+    let long = as_long k c.args.served.whole (code_of_view c.code.result.now) c.len-end.result c.code.ensures.code c.len-end.ensures.len in
     let above = c.loop-place-test.false in
     λ _ j a b. c.loop-place.invariant.none j a (omega (arith, long, above, b))
 
 pub returns-clause-cost_none : goal.returns-clause-cost_none
 returns-clause-cost_none g c =
     let k = contents_of_view c.args.served in
-    let long = as_long k c.args.served.whole (code_of_view c.code.result) c.len-end.result c.code.ensures.code c.len-end.ensures.len in
+    let long = as_long k c.args.served.whole (code_of_view c.code.result.now) c.len-end.result c.code.ensures.code c.len-end.ensures.len in
     let above = c.loop-place-test.false in
     λ _. all_scanned (scan_price k) c.args.from c.loop-place.place (2 * length k.edges) _ c.loop-place.steps (omega (arith, long, above, c.requires.from)) c.loop-place.invariant.cost

@@ -1,9 +1,8 @@
-use Rattle.std.proofs.Common.{arith, ap, sym, ◌∙◌, subst, ◌≡◌, ◌<◌, ◌+◌, ◌*◌, ℕ, List, length, None}
+use Rattle.std.proofs.Common.{arith, ap, sym, ◌∙◌, subst, ◌<◌, ◌+◌, ◌*◌, ℕ, List, length, None}
 use Rattle.std.specs.Prelude.{slice_index}
 use Rattle.std.proofs.lemmas.Bool.{both_ways}
 use Rattle.bit_words.specs.Digits.{digits}
 use Rattle.id_names.specs.Views.{ids_of}
-use Rattle.topo_base.specs.SignedEdge.{edge_of}
 use Rattle.pemb_file.specs.Served.{contents_of_view}
 use Rattle.navigate.proofs.Facts.{digits_edges, few_edges, edge_known}
 use Rattle.region_border.proofs.MapFacts.{mark_is, mark_low}
@@ -12,7 +11,7 @@ use Rattle.region_border.proofs.beginnings.mark_number.Goals as goal
 pub unreachable-requires : goal.unreachable-requires
 unreachable-requires g c =
     let k = contents_of_view c.args.served in
-    absurd (both_ways _ (sym (edge_known k (ids_of c.edges-edges.result) c.edge.result.0 c.args.edge None c.edges-edges.ensures c.edge.ensures c.in_default.ensures.found)) c.requires)
+    absurd (both_ways _ (sym (edge_known k (ids_of c.edges-edges.result.now) c.edge.result.0 c.args.edge None c.edges-edges.ensures c.edge.ensures c.in_default.ensures.found)) c.requires)
 
 pub mark_with-requires : goal.mark_with-requires
 mark_with-requires g c =

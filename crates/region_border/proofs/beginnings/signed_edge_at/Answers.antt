@@ -1,4 +1,4 @@
-use Rattle.std.proofs.Common.{arith, ap, sym, ◌∙◌, subst, ◌≡◌, ◌<◌, ◌+◌, ◌*◌, ◌/◌, ◌%◌, ◌==◌, ℕ, ℤ, List, length, true}
+use Rattle.std.proofs.Common.{arith, ap, sym, ◌∙◌, subst, ◌≡◌, ◌+◌, ◌/◌, ◌%◌, ◌==◌, ℕ, ℤ, List, length, true}
 use Rattle.std.specs.Prelude.{slice_index}
 use Rattle.bit_words.specs.Digits.{digits}
 use Rattle.topo_base.specs.SignedEdge.{edge_of}
@@ -26,7 +26,7 @@ returns-clause-edge g c =
     let place = c.args.place in
     let number = c.number_at-number in
     let id = c.id_of-id in
-    c.with_direction.ensures ∙ sym (number_is k c.args.served.whole place id.result c.requires (rank_id c.edges-edges.result k.edges (place / 2) number.result id.result c.edges-edges.ensures (omega (arith, c.requires)) number.ensures.id id.ensures.id))
+    c.with_direction.ensures ∙ sym (number_is k c.args.served.whole place id.result c.requires (rank_id c.edges-edges.result.now k.edges (place / 2) number.result id.result c.edges-edges.ensures (omega (arith, c.requires)) number.ensures.id id.ensures.id))
 
 pub returns-clause-known : goal.returns-clause-known
 returns-clause-known g c =
@@ -34,7 +34,7 @@ returns-clause-known g c =
     let place = c.args.place in
     let number = c.number_at-number in
     let id = c.id_of-id in
-    let is = c.with_direction.ensures ∙ sym (number_is k c.args.served.whole place id.result c.requires (rank_id c.edges-edges.result k.edges (place / 2) number.result id.result c.edges-edges.ensures (omega (arith, c.requires)) number.ensures.id id.ensures.id)) in
+    let is = c.with_direction.ensures ∙ sym (number_is k c.args.served.whole place id.result c.requires (rank_id c.edges-edges.result.now k.edges (place / 2) number.result id.result c.edges-edges.ensures (omega (arith, c.requires)) number.ensures.id id.ensures.id)) in
     subst (λ (d : ℤ). has_signed_edge (map_with k) d ≡ true) (sym is) (known_number k c.args.served.whole place c.requires)
 
 pub returns-clause-within : goal.returns-clause-within

@@ -1,15 +1,13 @@
-use Rattle.std.proofs.Common.{arith, ap, sym, ◌∙◌, ◌≡◌, ◌<◌, ◌≤◌, ◌*◌, ◌-◌, ◌+◌, ℕ, ℤ, true, false, length}
+use Rattle.std.proofs.Common.{arith, ap, sym, ◌∙◌, ◌≡◌, ◌<◌, ◌-◌, ℤ, true, false, length}
 use Rattle.std.specs.Prelude.{slice_index}
 use Rattle.turan_code.specs.TuranView.{code_of_view}
 use Rattle.plane_model.specs.PlaneMap.{signed_edges, next, turn}
-use Rattle.plane_model.specs.Border.{is_border, first_border}
+use Rattle.plane_model.specs.Border.{is_border}
 use Rattle.pemb_file.specs.Served.{contents_of_view}
 use Rattle.navigate.specs.Bound.{map_with}
 use Rattle.region_border.proofs.MapFacts.{many, as_long, known_reverse}
 use Rattle.region_border.proofs.Turning.{begins-at, found-here, goes-on, ended}
 use Rattle.region_border.proofs.Paying.{search_begun, search_on}
-use Rattle.region_border.specs.Looked.{passed_from}
-use Rattle.region_border.specs.Prices.{look_price}
 use Rattle.region_border.proofs.looking.outline_of.Goals as goal
 
 pub loop-init : goal.loop-init
@@ -37,7 +35,7 @@ loop-preserved g c =
     let r = slice_index k.regions c.args.region in
     let i = c.loop.invariant in
     let after = c.next_after-at-in-loop in
-    let long = as_long k c.args.served.whole (code_of_view c.code.result) c.len-end.result c.code.ensures.code c.len-end.ensures.len in
+    let long = as_long k c.args.served.whole (code_of_view c.code.result.now) c.len-end.result c.code.ensures.code c.len-end.ensures.len in
     let all = many k c.args.served.whole in
     let l : c.loop.counter < length (signed_edges m) = omega (arith, c.loop-test.true, long, all) in
     let b : is_border m r c.loop.at ≡ false = sym c.is_border.ensures.border ∙ c.if-is_border.false in
@@ -54,7 +52,7 @@ returns-then-is_border-clause-outline g c =
     let k = contents_of_view c.args.served in
     let m = map_with k in
     let r = slice_index k.regions c.args.region in
-    let long = as_long k c.args.served.whole (code_of_view c.code.result) c.len-end.result c.code.ensures.code c.len-end.ensures.len in
+    let long = as_long k c.args.served.whole (code_of_view c.code.result.now) c.len-end.result c.code.ensures.code c.len-end.ensures.len in
     let all = many k c.args.served.whole in
     let l : c.loop.counter < length (signed_edges m) = omega (arith, c.loop-test.true, long, all) in
     sym (found-here m r c.loop.counter c.loop.at l (sym c.is_border.ensures.border ∙ c.if-is_border.true)) ∙ c.loop.invariant.goes
@@ -67,7 +65,7 @@ returns-clause-outline g c =
     let k = contents_of_view c.args.served in
     let m = map_with k in
     let r = slice_index k.regions c.args.region in
-    let long = as_long k c.args.served.whole (code_of_view c.code.result) c.len-end.result c.code.ensures.code c.len-end.ensures.len in
+    let long = as_long k c.args.served.whole (code_of_view c.code.result.now) c.len-end.result c.code.ensures.code c.len-end.ensures.len in
     let all = many k c.args.served.whole in
     sym (ended m r c.loop.counter c.loop.at (omega (arith, c.loop-test.false, long, all))) ∙ c.loop.invariant.goes
 

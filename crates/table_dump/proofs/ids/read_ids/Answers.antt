@@ -25,9 +25,9 @@ returns-clause-cost g c =
     let of_nodes = digits_nodes m whole in
     let of_edges = digits_edges m whole in
     let of_faces = digits_faces m whole in
-    let nodes : digits (length (ids_of c.nodes.result) + 2) ≤ d = let same = ap (λ (xs : List ℕ). digits (length xs + 2)) c.nodes.ensures in omega (arith, same, of_nodes) in
-    let edges : digits (length (ids_of c.edges.result) + 2) ≤ d = let same = ap (λ (xs : List ℕ). digits (length xs + 2)) c.edges.ensures in omega (arith, same, of_edges) in
-    let faces : digits (length (ids_of c.faces.result) + 2) ≤ d = let same = ap (λ (xs : List ℕ). digits (length xs + 2)) c.faces.ensures in omega (arith, same, of_faces) in
+    let nodes : digits (length (ids_of c.nodes.result.now) + 2) ≤ d = let same = ap (λ (xs : List ℕ). digits (length xs + 2)) c.nodes.ensures in omega (arith, same, of_nodes) in
+    let edges : digits (length (ids_of c.edges.result.now) + 2) ≤ d = let same = ap (λ (xs : List ℕ). digits (length xs + 2)) c.edges.ensures in omega (arith, same, of_edges) in
+    let faces : digits (length (ids_of c.faces.result.now) + 2) ≤ d = let same = ap (λ (xs : List ℕ). digits (length xs + 2)) c.faces.ensures in omega (arith, same, of_faces) in
     let paid = ids_paid _ _ _ _ _ _ d _ _ _ _ few nodes edges faces c.first_ids-nodes.ensures.cost c.first_ids-edges.ensures.cost c.first_ids-faces.ensures.cost in
     let price = ap (λ e. e * (9 * line_digits m + 60)) counts.ensures.edges in
     omega (arith, paid, price)

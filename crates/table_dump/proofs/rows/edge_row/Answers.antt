@@ -31,7 +31,7 @@ returns-clause-row g c =
     let two = c.requires.ends.backward place c.requires.within in
     let f : SFits w64 c.next_in.result = search rules in
     let h : SFits w64 c.next_in-2.result = search rules in
-    let id = id_placed c.edges.result m.edges place c.id_at.result c.edges.ensures c.requires.within c.id_at.ensures.id in
+    let id = id_placed c.edges.result.now m.edges place c.id_at.result c.edges.ensures c.requires.within c.id_at.ensures.id in
     edge_row_is m c.id_at.result number (forward_position m number) (mate m.code (forward_position m number)) _ _ _ _ _ _ refl refl
     (c.node_in.ensures ∙ ap (node_in ends) c.end_at-forward.ensures.end ∙ one.node) (c.node_in-2.ensures ∙ ap (node_in ends) c.end_at-backward.ensures.end ∙ two.node)
     (to_z-of_z f ∙ c.next_in.ensures ∙ ap (next_in ends) c.end_at-forward.ensures.end ∙ one.next) (to_z-of_z h ∙ c.next_in-2.ensures ∙ ap (next_in ends) c.end_at-backward.ensures.end ∙ two.next)

@@ -13,7 +13,7 @@ pub returns-clause-row : goal.returns-clause-row
 returns-clause-row g c =
     let m = contents_of_view c.args.served in
     let row : ℕ → FaceRow = λ id. record { id = id } in
-    ap row (id_placed c.faces.result m.faces c.args.place c.id_at.result c.faces.ensures c.requires c.id_at.ensures.id)
+    ap row (id_placed c.faces.result.now m.faces c.args.place c.id_at.result c.faces.ensures c.requires c.id_at.ensures.id)
 
 pub returns-clause-cost : goal.returns-clause-cost
 returns-clause-cost g c =

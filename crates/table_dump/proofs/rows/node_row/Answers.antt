@@ -25,7 +25,7 @@ returns-clause-row g c =
     let number = c.get-number.result in
     let within = c.requires.numbers.within c.args.place c.requires.within in
     let is = ap (slice_index m.nodes) c.get-number.ensures ∙ c.requires.numbers.id c.args.place c.requires.within in
-    let id = id_placed c.nodes.result m.nodes c.args.place c.id_at.result c.nodes.ensures c.requires.within c.id_at.ensures.id in
+    let id = id_placed c.nodes.result.now m.nodes c.args.place c.id_at.result c.nodes.ensures c.requires.within c.id_at.ensures.id in
     let row : Option ℕ → NodeRow = λ face. record { id = c.id_at.result; face = face } in
     ap row c.enclosing_face.ensures.face ∙ row_there _ m.nodes (node_row m) c.args.place number c.id_at.result names (omega (arith, within, c.get-number.ensures)) is (id ∙ sym is)
 

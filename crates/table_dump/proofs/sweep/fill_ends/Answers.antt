@@ -17,12 +17,12 @@ pub returns-in_default-clause-ends : goal.returns-in_default-clause-ends
 returns-in_default-clause-ends g c =
     let m = contents_of_view c.args.served in
     let long = ap (λ (k : Code). length k.a) c.requires.code in
-    none_swept m (w m c.args.served.whole) c.edges-edges.result c.edges-edges.ensures (numbers_of c.args.ends.now) (omega (arith, c.in_default.ensures.end, c.requires.first, long)) c.requires.room
+    none_swept m (w m c.args.served.whole) c.edges-edges.result.now c.edges-edges.ensures (numbers_of c.args.ends.now) (omega (arith, c.in_default.ensures.end, c.requires.first, long)) c.requires.room
 
 pub loop-passed-init : goal.loop-passed-init
 loop-passed-init g c =
     let m = contents_of_view c.args.served in
-    let edges = c.edges-edges.result in
+    let edges = c.edges-edges.result.now in
     let before = c.args.tour.now in
     let long = ap (λ (k : Code). length k.a) c.requires.code in
     let some : 0 < length m.code.a = omega (arith, c.in-Some.ensures.end, c.requires.first, long) in
@@ -55,7 +55,7 @@ loop-passed-preserved g c =
       within = omega (arith, next, l);
       room = here.ensures.room ∙ i.room;
       end = here.ensures.within;
-      swept = subst (λ x. AreSwept m c.edges-edges.result x (numbers_of here.new.ends) here.result) (sym next) (here.ensures.swept (position_of c.loop-passed.tour) l numbers i.swept);
+      swept = subst (λ x. AreSwept m c.edges-edges.result.now x (numbers_of here.new.ends) here.result) (sym next) (here.ensures.swept (position_of c.loop-passed.tour) l numbers i.swept);
       read = omega (arith, i.read, c.in-Some-pass.ensures.least refl, here.ensures.grows);
       paid = omega (arith, next, i.paid, c.in-Some-pass.ensures.most, here.ensures.cost);
     }
@@ -75,7 +75,7 @@ returns-clause-ends g c =
     let ends = numbers_of c.loop-passed.ends in
     let f : SFits w64 c.loop-passed.behind.first = search rules in
     let is = c.put_next.ensures ∙ ap (λ (z : ℤ). slice_set ends (3 * behind.end + 2) (cast_unsigned w64 z)) (to_z-of_z f) in
-    all_swept m (w m c.args.served.whole) c.edges-edges.result c.edges-edges.ensures (position_of c.loop-passed.tour) ends (numbers_of c.put_next.new.ends) behind (omega (arith, c.in_default-pass.ensures.end, long)) i.room i.end i.swept f is
+    all_swept m (w m c.args.served.whole) c.edges-edges.result.now c.edges-edges.ensures (position_of c.loop-passed.tour) ends (numbers_of c.put_next.new.ends) behind (omega (arith, c.in_default-pass.ensures.end, long)) i.room i.end i.swept f is
     (ap (λ (xs : List ℕ). length xs) is ∙ length-set ends (3 * behind.end + 2) (cast_unsigned w64 behind.first))
 
 pub returns-clause-cost : goal.returns-clause-cost
@@ -86,3 +86,6 @@ returns-clause-cost g c =
     let sizes = (w m c.args.served.whole).sizes.positions in
     let all : position_of c.loop-passed.tour ≡ 2 * length m.edges = omega (arith, c.in_default-pass.ensures.end, long, sizes) in
     omega (arith, all, i.paid, c.in_default-pass.ensures.free refl)
+
+pub returns-clause-grows : goal.returns-clause-grows
+returns-clause-grows g c = omega (arith, c.loop-passed.invariant.read, c.in_default-pass.ensures.free refl)

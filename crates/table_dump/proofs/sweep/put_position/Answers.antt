@@ -68,7 +68,7 @@ pub returns-clause-put : goal.returns-clause-put
 returns-clause-put g c = λ p l numbers.
     let m = contents_of_view c.args.served in
     let parts = w m c.args.served.whole in
-    let edges = c.args.edges in
+    let edges = c.args.edges.now in
     let edge = c.args.passed.edge in
     let side = forward_there m parts edges c.requires.edges p edge c.args.passed.first c.forward.result numbers.edge numbers.first c.forward.ensures.forward in
     let id = c.edge.ensures ∙ ap (λ (xs : List ℕ). slice_index xs edge) c.requires.ids.edges in

@@ -24,7 +24,7 @@ pub returns-in-Ok-line_of_counts : goal.returns-in-Ok-line_of_counts
 returns-in-Ok-line_of_counts g c = λ script idle.
     let seen = c.deref.result.now in
     let lawful = lawful_from seen c.in-Ok-open.ensures.fault in
-    let line = c.in-Ok-line_of_counts.ensures ∙ ap (counts_line (codes "lawful")) (map_is seen _ c.in-Ok-open.ensures.contents) in
+    let line = c.in-Ok-line_of_counts.ensures ∙ ap (counts_line (codes "lawful")) (map_is seen _ (c.of-served.ensures ∙ c.in-Ok-open.ensures.contents)) in
     let Q : List ℕ → Type 0 = λ text. IsTold text status.Done c.tell.result (sink_call g.K.Sink.held g.K.Sink.faults c.args.out.now c.tell.new.out) in
     told _ (Form.Check c.args.file.now) (map_of_file seen) _ _
     (record {

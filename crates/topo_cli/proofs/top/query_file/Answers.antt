@@ -1,4 +1,4 @@
-use Rattle.std.proofs.Common.{refl, arith}
+use Rattle.std.proofs.Common.{◌∙◌, refl, arith}
 use Rattle.file_laws.specs.Lawful.{map_of_file}
 use Rattle.file_laws.proofs.Sizes.{lawful_consistent, lawful_size}
 use Rattle.topo_cli.specs.Words.{Form}
@@ -20,7 +20,7 @@ pub returns-in-Ok-open : goal.returns-in-Ok-open
 returns-in-Ok-open g c =
     let seen = c.deref.result.now in
     let lawful = lawful_from seen c.in-Ok-open.ensures.fault in
-    served_as _ (Form.Query c.args.file.now) (map_of_file seen) _ _ _ (map_is seen _ c.in-Ok-open.ensures.contents)
+    served_as _ (Form.Query c.args.file.now) (map_of_file seen) _ _ _ (map_is seen _ (c.of.ensures ∙ c.in-Ok-open.ensures.contents))
     (record {
       form = refl;
       reads = tt;

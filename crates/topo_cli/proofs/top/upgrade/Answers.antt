@@ -45,7 +45,7 @@ returns-in-Ok-write_file g c = λ script idle.
     let lawful = lawful_from seen c.in-Ok-open.ensures.fault in
     let start = c.in-Ok-open.ensures.grows in
     let more = c.upgraded.ensures.grows in
-    let line = c.in-Ok-line_of_counts.ensures ∙ ap (counts_line (codes "upgraded")) (map_is seen _ c.in-Ok-open.ensures.contents) in
+    let line = c.in-Ok-line_of_counts.ensures ∙ ap (counts_line (codes "upgraded")) (map_is seen _ (c.of-served.ensures ∙ c.in-Ok-open.ensures.contents)) in
     let Q : List ℕ → Type 0 = λ text. IsTold text status.Done c.tell.result (sink_call g.K.Sink.held g.K.Sink.faults c.args.out.now c.tell.new.out) in
     let W : List ℕ → Type 0 = IsWhole (g.H.Shelf.files c.args.shelf.now) c.args.old_file.now in
     upgraded _ c.args.old_file.now c.args.new_file.now (map_of_file seen) seen c.in-Ok-upgraded.image.items _
@@ -59,7 +59,7 @@ returns-in-Ok-write_file g c = λ script idle.
       };
       whole = subst W (sym c.deref.ensures.value) c.in-Ok.ensures.whole;
       lawful = lawful;
-      is = c.in-Ok-upgraded.ensures.upgrade seen c.in-Ok-open.ensures.contents;
+      is = c.in-Ok-upgraded.ensures.upgrade seen (c.of-served.ensures ∙ c.in-Ok-open.ensures.contents);
     })
     (written_since _ _ _ _ _ (Holds c.args.new_file.now) c.deref-2.ensures.value c.in-Ok.ensures.kept c.in-Ok-write_file.ensures.written)
     (subst Q (c.deref-in-Ok-write_file.ensures.value ∙ line) c.tell.ensures)
@@ -82,7 +82,7 @@ returns g c = λ script idle.
       };
       whole = subst W (sym c.deref.ensures.value) c.in-Ok.ensures.whole;
       lawful = lawful;
-      is = c.in-Ok-upgraded.ensures.upgrade seen c.in-Ok-open.ensures.contents;
+      is = c.in-Ok-upgraded.ensures.upgrade seen (c.of-served.ensures ∙ c.in-Ok-open.ensures.contents);
     })
     (written_since _ _ _ _ _ (HoldsFront c.args.new_file.now) c.deref-2.ensures.value c.in-Ok.ensures.kept c.in-Err-write_file.ensures.part)
     (rose_since _ _ _ c.in-Ok.ensures.no_write_fault c.in-Err-write_file.ensures.rose) refl

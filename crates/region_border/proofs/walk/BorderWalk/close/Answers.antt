@@ -9,11 +9,11 @@ use Rattle.region_border.proofs.walk.BorderWalk.close.Goals as goal
 pub clear_below-requires : goal.clear_below-requires
 clear_below-requires g c =
     let v = c.args.self in
-    let long = as_long (contents_in v) v.served.whole (code_of_view c.code.result) c.len-end.result c.code.ensures.code c.len-end.ensures.len in
+    let long = as_long (contents_in v) v.served.whole (code_of_view c.code.result.now) c.len-end.result c.code.ensures.code c.len-end.ensures.len in
     omega (arith, long, c.requires.room)
 
 pub returns-clause-empty : goal.returns-clause-empty
 returns-clause-empty g c =
     let v = c.args.self in
-    let long = as_long (contents_in v) v.served.whole (code_of_view c.code.result) c.len-end.result c.code.ensures.code c.len-end.ensures.len in
+    let long = as_long (contents_in v) v.served.whole (code_of_view c.code.result.now) c.len-end.result c.code.ensures.code c.len-end.ensures.len in
     all_cleared (is_marked c.args.marks.now) (is_marked c.clear_below.new.marks) c.len-end.result (given_low v c.args.marks.now c.len-end.result long c.requires.marks) c.clear_below.ensures.cleared c.clear_below.ensures.kept

@@ -1,5 +1,5 @@
 use Rattle.std.specs.Prelude.{IsNone}
-use Rattle.std.proofs.Common.{arith, sym, ap, ◌∙◌, ◌≡◌, ◌+◌, ◌*◌, ℕ, ℤ, Bool, true, false, refl, subst, length, Option, Some, None}
+use Rattle.std.proofs.Common.{arith, sym, ap, ◌∙◌, ◌≡◌, ◌+◌, ℕ, ℤ, true, refl, subst, Option, Some}
 use Rattle.std.proofs.lemmas.Bool.{both_ways}
 use Rattle.scratch_region.specs.Marks.{is_marked}
 use Rattle.turan_code.specs.TuranView.{code_of_view}
@@ -22,7 +22,7 @@ returns-in-Some-clause-ready g c =
 pub invariant_of-self : goal.invariant_of-self
 invariant_of-self g c =
     let v = c.args.self.now in
-    let long = as_long (contents_in v) v.served.whole (code_of_view c.code.result) c.len-count.result c.code.ensures.code c.len-count.ensures.len in
+    let long = as_long (contents_in v) v.served.whole (code_of_view c.code.result.now) c.len-count.result c.code.ensures.code c.len-count.ensures.len in
     record {
       region_in = v.region_in;
       seen_in = omega (arith, long);
@@ -35,7 +35,7 @@ returns-in_default-first_unmarked-clause-rest g c =
     let v = c.args.self.now in
     let k = contents_in v in
     let count = c.len-count.result in
-    let long = as_long k v.served.whole (code_of_view c.code.result) count c.code.ensures.code c.len-count.ensures.len in
+    let long = as_long k v.served.whole (code_of_view c.code.result.now) count c.code.ensures.code c.len-count.ensures.len in
     let found = c.first_unmarked.ensures.none (subst (λ (o : Option (ℕ × ℤ)). IsNone o) (sym c.in_default-first_unmarked.is) refl) in
     let last = over-behind k v.served.whole v.region v.seen v.ring c.in_default.is v.standing (is_marked c.args.marks.now) c.requires.marks count long in
     let all = over k v.served.whole v.region v.seen v.ring c.in_default.is v.standing (is_marked c.args.marks.now) c.requires.marks v.seen_in found in
@@ -47,7 +47,7 @@ returns-in_default-first_unmarked-clause-ready g c =
     let v = c.args.self.now in
     let k = contents_in v in
     let count = c.len-count.result in
-    let long = as_long k v.served.whole (code_of_view c.code.result) count c.code.ensures.code c.len-count.ensures.len in
+    let long = as_long k v.served.whole (code_of_view c.code.result.now) count c.code.ensures.code c.len-count.ensures.len in
     let last = over-behind k v.served.whole v.region v.seen v.ring c.in_default.is v.standing (is_marked c.args.marks.now) c.requires.marks count long in
     λ _. ap (λ (o : Option Ring). items_left (map_in v) (region_in v) count o) c.in_default.is ∙ last
 
@@ -57,7 +57,7 @@ returns-in_default-first_unmarked-clause-paid g c =
     let v = c.args.self.now in
     let k = contents_in v in
     let count = c.len-count.result in
-    let long = as_long k v.served.whole (code_of_view c.code.result) count c.code.ensures.code c.len-count.ensures.len in
+    let long = as_long k v.served.whole (code_of_view c.code.result.now) count c.code.ensures.code c.len-count.ensures.len in
     let is_none = subst (λ (o : Option (ℕ × ℤ)). IsNone o) (sym c.in_default-first_unmarked.is) refl in
     let found = c.first_unmarked.ensures.none is_none in
     let last = over-behind k v.served.whole v.region v.seen v.ring c.in_default.is v.standing (is_marked c.args.marks.now) c.requires.marks count long in
@@ -73,7 +73,7 @@ invariant_of-self-2 g c =
     let found = c.in-Some-first_unmarked.found in
     let told = c.in-Some-first_unmarked.ensures in
     let q = c.whole.result in
-    let long = as_long k v.served.whole (code_of_view c.code.result) c.len-count.result c.code.ensures.code c.len-count.ensures.len in
+    let long = as_long k v.served.whole (code_of_view c.code.result.now) c.len-count.result c.code.ensures.code c.len-count.ensures.len in
     let known = subst (λ (d : ℤ). has_signed_edge (map_in v) d ≡ true) (sym (ap (λ (x : Ring). x.at) c.whole.ensures)) told.known in
     let same = settled k v.served.whole v.region v.seen v.ring c.in_default.is v.standing (is_marked c.args.marks.now) c.requires.marks found.0 c.len-count.result found.1 q c.whole.ensures
     told.within.0 told.within.1 long told.edge told.fresh told.passed in
@@ -90,7 +90,7 @@ returns-clause-rest g c =
     let k = contents_in v in
     let found = c.in-Some-first_unmarked.found in
     let told = c.in-Some-first_unmarked.ensures in
-    let long = as_long k v.served.whole (code_of_view c.code.result) c.len-count.result c.code.ensures.code c.len-count.ensures.len in
+    let long = as_long k v.served.whole (code_of_view c.code.result.now) c.len-count.result c.code.ensures.code c.len-count.ensures.len in
     settled k v.served.whole v.region v.seen v.ring c.in_default.is v.standing (is_marked c.args.marks.now) c.requires.marks found.0 c.len-count.result found.1 c.whole.result c.whole.ensures
     told.within.0 told.within.1 long told.edge told.fresh told.passed
 
@@ -105,7 +105,7 @@ returns-clause-paid g c =
     let found = c.in-Some-first_unmarked.found in
     let told = c.in-Some-first_unmarked.ensures in
     let q = c.whole.result in
-    let long = as_long k v.served.whole (code_of_view c.code.result) c.len-count.result c.code.ensures.code c.len-count.ensures.len in
+    let long = as_long k v.served.whole (code_of_view c.code.result.now) c.len-count.result c.code.ensures.code c.len-count.ensures.len in
     let same = settled k v.served.whole v.region v.seen v.ring c.in_default.is v.standing (is_marked c.args.marks.now) c.requires.marks found.0 c.len-count.result found.1 q c.whole.ensures
     told.within.0 told.within.1 long told.edge told.fresh told.passed in
     scanned_paid k (region_in v) v.seen found.0 c.args.steps.now c.first_unmarked.new.steps (items_left (map_in v) (region_in v) v.seen v.ring) (items_left (map_in v) (region_in v) (found.0 + 1) (Some q))

@@ -9,7 +9,7 @@ use Rattle.navigate.specs.OrbitWalk.{positions_left, price}
 use Rattle.navigate.proofs.Walking.{walk-head}
 use Rattle.navigate.proofs.FaceLaws.{orbit-some}
 use Rattle.navigate.proofs.Leasts.{least-first, least-none, least-taken, least-left, paid-one}
-use Rattle.navigate.proofs.search.smallest_from.Goals as goal
+use Rattle.navigate.proofs.search.begun_at_smallest.Goals as goal
 
 pub unreachable-requires : goal.unreachable-requires
 unreachable-requires g c =
@@ -28,6 +28,7 @@ loop-found-init g c =
     let cost : c.stop.new.steps ≤ c.args.steps.now + price m = let e = ap line_digits same in omega (arith, e, c.in-Some.ensures.cost.1) in
     record {
       map = c.in-Some.ensures.contents ∙ same;
+      kind = c.in-Some.ensures.kind ∙ c.from-walk.ensures.kind;
       within = subst (λ (x : Contents). own < length x.code.a) same c.in-Some.ensures.within;
       edge = c.in-Some.ensures.edge ∙ ap (λ (x : Contents). signed_at x own) same;
       least_left = least-first m p own all new (walk-head (length m.code.a) (step m.code kind) p p (λ z. omega (arith, z, c.requires))) next;
@@ -47,6 +48,7 @@ loop-found-preserved-then-key_less g c =
     let cost : c.stop-in-loop-found.new.steps ≤ c.loop-found.steps + price m = let e = ap line_digits i.map in omega (arith, e, here.cost.1) in
     record {
       map = here.contents ∙ i.map;
+      kind = here.kind ∙ i.kind;
       within = subst (λ (x : Contents). q < length x.code.a) i.map here.within;
       edge = edge;
       least_left = least-taken m c.loop-found.best.0 q left new c.loop-found.best.1 c.in-Some-stop.found.1 _ i.edge edge (sym c.key_less.ensures ∙ c.if-key_less.true) here.next i.least_left;
@@ -66,6 +68,7 @@ loop-found-preserved g c =
     let cost : c.stop-in-loop-found.new.steps ≤ c.loop-found.steps + price m = let e = ap line_digits i.map in omega (arith, e, here.cost.1) in
     record {
       map = here.contents ∙ i.map;
+      kind = here.kind ∙ i.kind;
       within = i.within;
       edge = i.edge;
       least_left = least-left m c.loop-found.best.0 q left new c.loop-found.best.1 c.in-Some-stop.found.1 _ i.edge edge (sym c.key_less.ensures ∙ c.if-key_less.false) here.next i.least_left;
@@ -73,5 +76,17 @@ loop-found-preserved g c =
       paid = paid-one m q left new c.loop-found.steps c.stop-in-loop-found.new.steps _ here.next i.paid cost;
     }
 
-pub returns-clause-smallest : goal.returns-clause-smallest
-returns-clause-smallest g c = least-none (contents_of_view c.args.served) c.loop-found.best.0 (positions_left c.loop-found.walk) _ c.in_default-stop.ensures.next c.loop-found.invariant.least_left
+pub returns-clause-positions : goal.returns-clause-positions
+returns-clause-positions g c =
+    let m = contents_of_view c.args.served in
+    let i = c.loop-found.invariant in
+    let last = c.in_default-stop.ensures in
+    let best = least-none m c.loop-found.best.0 (positions_left c.loop-found.walk) _ last.next i.least_left in
+    c.anew.ensures.positions ∙ ap (λ (x : Contents). orbit x.code c.stop-in-loop-found.new.self.kind c.loop-found.best.0) (last.contents ∙ i.map)
+    ∙ ap (λ k. orbit m.code k c.loop-found.best.0) (last.kind ∙ i.kind) ∙ ap (orbit m.code c.args.kind) best
+
+pub returns-clause-within : goal.returns-clause-within
+returns-clause-within g c =
+    let m = contents_of_view c.args.served in
+    let i = c.loop-found.invariant in
+    subst (λ x. x < length m.code.a) (least-none m c.loop-found.best.0 (positions_left c.loop-found.walk) _ c.in_default-stop.ensures.next i.least_left) i.within

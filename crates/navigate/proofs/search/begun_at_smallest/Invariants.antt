@@ -4,13 +4,14 @@ use Rattle.file_laws.specs.MapOfFile.{signed_at}
 use Rattle.navigate.specs.Least.{least, smallest_of}
 use Rattle.pemb_file.specs.Served.{contents_of_view}
 use Rattle.navigate.specs.OrbitWalk.{contents_in, positions_left, price}
-use Rattle.navigate.proofs.search.smallest_from.Given as goal
+use Rattle.navigate.proofs.search.begun_at_smallest.Given as goal
 
 abbrev pub invariant-loop-found : goal.invariant-loop-found
 invariant-loop-found g l =
     let m = contents_of_view l.served in
     record {
       map : contents_in l.walk ≡ m;
+      kind : l.walk.kind ≡ l.kind;
       within : l.best.0 < length m.code.a;
       edge : l.best.1 ≡ signed_at m l.best.0;
       least_left : least m l.best.0 (positions_left l.walk) ≡ smallest_of m l.kind l.p;

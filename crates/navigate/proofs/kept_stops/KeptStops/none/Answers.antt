@@ -1,0 +1,6 @@
+use Rattle.std.proofs.Common.{arith}
+use Rattle.navigate.specs.KeptStops.{AreKept}
+use Rattle.navigate.proofs.kept_stops.KeptStops.none.Goals as goal
+
+pub returns : goal.returns
+returns c code kind j d none = absurd (omega (arith, none))

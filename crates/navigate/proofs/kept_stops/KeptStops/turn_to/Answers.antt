@@ -1,0 +1,5 @@
+use Rattle.navigate.proofs.KeptLaws.{same_stops}
+use Rattle.navigate.proofs.kept_stops.KeptStops.turn_to.Goals as goal
+
+pub returns : goal.returns
+returns c code kind are = same_stops code kind _ _ _ _ c.loop-place.invariant.stops c.loop-place.invariant.count are

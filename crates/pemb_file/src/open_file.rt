@@ -1,0 +1,83 @@
+//! A lawful file that is open.
+
+ghost use Rattle.std.specs.Prelude.{IsTrue};
+ghost use Rattle.bit_words.specs.BitView.{bits_of};
+ghost use Rattle.bit_words.specs.PackedView.{fields_of};
+ghost use Rattle.parens.specs.ParenView.{parens_of};
+ghost use Rattle.turan_code.specs.TuranView.{code_of_view};
+ghost use Rattle.id_names.specs.Views.{ids_of};
+ghost use Rattle.file_laws.specs.Contents.{contents_with};
+ghost use Rattle.file_laws.specs.Lawful.{is_whole};
+
+use bit_words::{BitView, PackedView};
+use id_names::NamesView;
+use parens::ParenView;
+use turan_code::TuranView;
+
+/// A lawful file that is open: views of its sections, whose contents are whole.
+#[derive(Drop)]
+pub struct OpenFile<'a> {
+    pub(crate) code: TuranView<'a>,
+    pub(crate) forward: BitView<'a>,
+    pub(crate) nodes: NamesView<'a>,
+    pub(crate) edges: NamesView<'a>,
+    pub(crate) faces: NamesView<'a>,
+    pub(crate) regions: NamesView<'a>,
+    pub(crate) places: PackedView<'a>,
+    pub(crate) place_order: PackedView<'a>,
+    pub(crate) isolated: PackedView<'a>,
+    pub(crate) region_tree: ParenView<'a>,
+    pub(crate) members: PackedView<'a>,
+    ghost whole: { IsTrue (is_whole (contents_with (code_of_view code) (bits_of forward) (ids_of nodes) (ids_of edges)
+        (ids_of faces) (ids_of regions) (fields_of places) (fields_of place_order) (fields_of isolated)
+        (parens_of region_tree) (fields_of members))) },
+}
+
+impl<'a> OpenFile<'a> {
+    ghost use Rattle.std.specs.Prelude.{◌≡◌, IsTrue};
+    ghost use Rattle.turan_code.specs.TuranView.{code_of_view};
+    ghost use Rattle.id_names.specs.Views.{ids_of};
+    ghost use Rattle.bit_words.specs.BitView.{bits_of};
+    ghost use Rattle.bit_words.specs.PackedView.{fields_of};
+    ghost use Rattle.parens.specs.ParenView.{parens_of};
+    ghost use Rattle.file_laws.specs.Contents.{contents_with};
+    ghost use Rattle.file_laws.specs.Lawful.{is_whole};
+    ghost use Rattle.pemb_file.specs.OpenFile.{contents_of_file};
+
+    /// These views, whose contents are whole.
+    pub(crate) fn new(
+        code: TuranView<'a>,
+        forward: BitView<'a>,
+        nodes: NamesView<'a>,
+        edges: NamesView<'a>,
+        faces: NamesView<'a>,
+        regions: NamesView<'a>,
+        places: PackedView<'a>,
+        place_order: PackedView<'a>,
+        isolated: PackedView<'a>,
+        region_tree: ParenView<'a>,
+        members: PackedView<'a>,
+    ) -> OpenFile<'a>
+        requires { IsTrue (is_whole (contents_with (code_of_view code) (bits_of forward) (ids_of nodes) (ids_of edges)
+            (ids_of faces) (ids_of regions) (fields_of places) (fields_of place_order) (fields_of isolated)
+            (parens_of region_tree) (fields_of members))) }
+        ensures { contents_of_file result ≡ contents_with (code_of_view code.entry) (bits_of forward.entry)
+            (ids_of nodes.entry) (ids_of edges.entry) (ids_of faces.entry) (ids_of regions.entry)
+            (fields_of places.entry) (fields_of place_order.entry) (fields_of isolated.entry)
+            (parens_of region_tree.entry) (fields_of members.entry) }
+    {
+        OpenFile {
+            code,
+            forward,
+            nodes,
+            edges,
+            faces,
+            regions,
+            places,
+            place_order,
+            isolated,
+            region_tree,
+            members,
+        }
+    }
+}
