@@ -4,7 +4,7 @@ use Rattle.std.proofs.Common.{◌≡◌, ℕ, suc, ◌+◌, ◌*◌, ◌-◌, �
 use Rattle.std.proofs.lemmas.Bool.{cases_Bool, cases_eq, eq-eqb, ne_eqb, leb-true, le-leb, lt-ltb, and_from, false_from_ne_true}
 use mathlib.Core.Bool.{beq}
 use Rattle.bit_words.specs.Digits.{digits}
-use Rattle.bit_words.proofs.DigitLaws.{digits-mono}
+use Rattle.bit_words.proofs.DigitLaws.{digits-halved, digits-mono}
 use Rattle.orbits.proofs.Lists.{from_filter, in_filter}
 use Rattle.orbits.proofs.Numbers.{same_numbers}
 use Rattle.plane_model.specs.declared.rows.NodeRow.{NodeRow}
@@ -171,8 +171,8 @@ module _ (c : Contents) (h : is_whole c ≡ true) where
   pub digits_faces : digits (length c.faces + 2) ≤ line_digits c
   digits_faces = let b = w.sizes.faces in digits-mono _ _ (omega (arith, b))
 
-  pub digits_components : digits (component_count c) ≤ line_digits c
-  digits_components = let d = few_components in digits-mono _ _ (omega (arith, d))
+  pub digits_components : digits (component_count c) + 1 ≤ line_digits c
+  digits_components = let d = few_components in digits-halved _ _ (omega arith) (omega (arith, d))
 
   pub digits_isolated : digits (length c.isolated) ≤ line_digits c
   digits_isolated = digits-mono _ _ (omega arith)

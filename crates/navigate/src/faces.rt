@@ -12,7 +12,7 @@ ghost use Rattle.navigate.specs.FaceWalk.{contents_in, rest, allowance};
 use crate::face_rings::FaceWalk;
 use crate::names;
 use crate::orbit_walk::OrbitWalk;
-use crate::places::components_below;
+use crate::places::{components_below, components_to};
 use crate::search::begun_at_smallest;
 use bit_words::Steps;
 use pemb_file::Served;
@@ -35,7 +35,7 @@ pub fn rings_at<'a, C: Ledger>(
         + orbits.price (contents_of_view served.entry) * length (rest result)) }
 {
     let hole = components_below(served, place, steps);
-    let end = components_below(served, place + 1, steps);
+    let end = components_to(served, place, hole, steps);
     let ring = shell_walk(served, place, steps);
     FaceWalk::settled(served, ring, hole, end, steps)
 }

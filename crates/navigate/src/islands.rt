@@ -9,7 +9,7 @@ ghost use Rattle.navigate.specs.IslandWalk.{rest, allowance};
 
 use crate::inside::IslandWalk;
 use crate::names;
-use crate::places::{components_below, isolated_below};
+use crate::places::{components_below, components_to, isolated_below, isolated_to};
 use bit_words::Steps;
 use pemb_file::Served;
 use std::sync::ledger::Ledger;
@@ -33,8 +33,8 @@ pub fn island_walk<'a, C: Ledger>(
         return None;
     };
     let hole = components_below(served, place, steps);
-    let end = components_below(served, place + 1, steps);
+    let end = components_to(served, place, hole, steps);
     let node = isolated_below(served, place, steps);
-    let last = isolated_below(served, place + 1, steps);
+    let last = isolated_to(served, place, node, steps);
     Some(IslandWalk::between(served, hole, end, node, last))
 }

@@ -1,7 +1,9 @@
 //! What lies in a face: components and isolated nodes in the order of their places, found by halving.
 
 ghost use Rattle.std.specs.Prelude.{ℕ, ◌≡◌, ◌<◌, ◌≤◌, ◌+◌, ◌*◌, length, slice_index};
+ghost use Rattle.bit_words.specs.Digits.{digits};
 ghost use Rattle.code_laws.specs.Code.{start_of};
+ghost use Rattle.file_laws.specs.Contents.{component_count};
 ghost use Rattle.pemb_file.specs.Served.{contents_of_view};
 ghost use Rattle.navigate.specs.Bound.{line_digits};
 ghost use Rattle.navigate.specs.Holes.{place_at};
@@ -17,7 +19,7 @@ pub fn components_below<C: Ledger>(served: Served<'_>, place: usize, steps: &mut
     ensures from { (i : ℕ) → result ≤ i → i < length (contents_of_view served.entry).place_order
         → place ≤ place_at (contents_of_view served.entry) i }
     ensures grows { steps.old ≤ steps.new }
-    ensures cost { steps.new ≤ steps.old + 4 * line_digits (contents_of_view served.entry) }
+    ensures cost { steps.new ≤ steps.old + 4 * digits (component_count (contents_of_view served.entry)) }
 {
     let mut low = 0;
     let mut high = served.counts().components as usize;
@@ -33,6 +35,34 @@ pub fn components_below<C: Ledger>(served: Served<'_>, place: usize, steps: &mut
     low
 }
 
+/// How many components lie at this place or at one below it, where so many lie below it. Most places have none, which
+/// the first of them tells.
+pub fn components_to<C: Ledger>(
+    served: Served<'_>,
+    place: usize,
+    below: usize,
+    steps: &mut Steps<C>,
+) -> usize
+    requires place { place ≤ length (contents_of_view served).faces }
+    requires below { below ≤ length (contents_of_view served).place_order }
+    requires before { (i : ℕ) → i < below → place_at (contents_of_view served) i < place }
+    ensures within { result ≤ length (contents_of_view served.entry).place_order }
+    ensures before { (i : ℕ) → i < result → place_at (contents_of_view served.entry) i < place + 1 }
+    ensures from { (i : ℕ) → result ≤ i → i < length (contents_of_view served.entry).place_order
+        → place + 1 ≤ place_at (contents_of_view served.entry) i }
+    ensures grows { steps.old ≤ steps.new }
+    ensures cost { steps.new ≤ steps.old + 4 * line_digits (contents_of_view served.entry) }
+{
+    if below == served.counts().components as usize {
+        return below;
+    }
+    let component = served.place_order(below, steps) as usize;
+    if served.place(component, steps) as usize > place {
+        return below;
+    }
+    components_below(served, place + 1, steps)
+}
+
 /// How many isolated nodes lie at places below this one.
 pub fn isolated_below<C: Ledger>(served: Served<'_>, place: usize, steps: &mut Steps<C>) -> usize
     ensures within { result ≤ length (contents_of_view served.entry).isolated }
@@ -40,7 +70,7 @@ pub fn isolated_below<C: Ledger>(served: Served<'_>, place: usize, steps: &mut S
     ensures from { (i : ℕ) → result ≤ i → i < length (contents_of_view served.entry).isolated
         → place ≤ slice_index (contents_of_view served.entry).isolated i }
     ensures grows { steps.old ≤ steps.new }
-    ensures cost { steps.new ≤ steps.old + 4 * line_digits (contents_of_view served.entry) }
+    ensures cost { steps.new ≤ steps.old + 2 * line_digits (contents_of_view served.entry) }
 {
     let mut low = 0;
     let mut high = served.counts().isolated as usize;
@@ -53,6 +83,32 @@ pub fn isolated_below<C: Ledger>(served: Served<'_>, place: usize, steps: &mut S
         }
     }
     low
+}
+
+/// How many isolated nodes lie at this place or at one below it, where so many lie below it.
+pub fn isolated_to<C: Ledger>(
+    served: Served<'_>,
+    place: usize,
+    below: usize,
+    steps: &mut Steps<C>,
+) -> usize
+    requires place { place ≤ length (contents_of_view served).faces }
+    requires below { below ≤ length (contents_of_view served).isolated }
+    requires before { (i : ℕ) → i < below → slice_index (contents_of_view served).isolated i < place }
+    ensures within { result ≤ length (contents_of_view served.entry).isolated }
+    ensures before { (i : ℕ) → i < result → slice_index (contents_of_view served.entry).isolated i < place + 1 }
+    ensures from { (i : ℕ) → result ≤ i → i < length (contents_of_view served.entry).isolated
+        → place + 1 ≤ slice_index (contents_of_view served.entry).isolated i }
+    ensures grows { steps.old ≤ steps.new }
+    ensures cost { steps.new ≤ steps.old + 4 * line_digits (contents_of_view served.entry) }
+{
+    if below == served.counts().isolated as usize {
+        return below;
+    }
+    if served.isolated(below, steps) as usize > place {
+        return below;
+    }
+    isolated_below(served, place + 1, steps)
 }
 
 /// The first position of the component at entry `j` of the order.

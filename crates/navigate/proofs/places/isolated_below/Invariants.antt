@@ -13,7 +13,7 @@ invariant-loop-low g l =
       before : (i : ℕ) → i < l.low → slice_index m.isolated i < l.place;
       from : (i : ℕ) → l.high ≤ i → i < length m.isolated → l.place ≤ slice_index m.isolated i;
       grows : l.initial.steps ≤ l.steps;
-      paid : l.steps + 4 * digits (l.high - l.low) ≤ l.initial.steps + 4 * digits (length m.isolated);
+      paid : l.steps + 2 * digits (l.high - l.low) ≤ l.initial.steps + 2 * digits (length m.isolated);
     }
 
 abbrev pub decreases-loop-low : goal.decreases-loop-low
