@@ -1,19 +1,14 @@
 -- Numbers that are followed along the places, from a mark to the next and round a short cycle.
-use Rattle.std.proofs.Common.{◌≡◌, ℕ, suc, ◌+◌, ◌<◌, ◌≤◌, inl, inr, Bool, true, false, List, length, get_or, refl, ap, sym, subst, ◌∙◌, arith}
-use Rattle.std.proofs.lemmas.Bool.{cases_lt}
-use Rattle.id_names.specs.Inverse.{back_from, stride}
-use Rattle.id_names.specs.Ways.{after, is_marked, IsWay, IsShortCycle}
+use Rattle.std.proofs.Common.{◌≡◌, ℕ, suc, ◌+◌, ◌<◌, ◌≤◌, inl, inr, Bool, false, List, length, get_or, refl, ap, sym, subst, ◌∙◌, arith}
+use Rattle.std.proofs.lemmas.Bool.{cases_lt, both_ways}
+use Rattle.id_names.specs.Inverse.{stride}
+use Rattle.id_names.specs.Ways.{after, is_marked, IsFollowed, IsShortCycle, begun}
+use Rattle.id_names.specs.declared.ways.Way.{Way}
 
 pub next_after : (places : List ℕ) (k x number next : ℕ) → number ≡ after places k x → next ≡ get_or places number 0 → next ≡ after places (k + 1) x
 next_after places k x number next at is =
     let e : suc k ≡ k + 1 = omega arith in
     is ∙ ap (λ y. get_or places y 0) at ∙ ap (λ n. after places n x) e
-
--- after k steps from a mark no other mark has come
-pub record IsFollowed (places : List ℕ) (marks : List Bool) (mark number k : ℕ) : Type 0 where
-  pub at : number ≡ after places k mark
-  pub within : (i : ℕ) → i ≤ k → after places i mark < length places
-  pub free : (i : ℕ) → 1 ≤ i → i ≤ k → is_marked places marks i mark ≡ false
 
 -- after k steps from a number neither a mark nor a number that is not above it has come
 pub record IsAbove (places : List ℕ) (marks : List Bool) (least number k : ℕ) : Type 0 where
@@ -33,32 +28,31 @@ module _ (places : List ℕ) (marks : List Bool) where
   at_first : (x : ℕ) → x < length places → (i : ℕ) → i ≤ 0 → after places i x < length places
   at_first x h i l = let e : 0 ≡ i = omega arith in subst (λ i. after places i x < length places) e h
 
-  pub followed_none : (mark : ℕ) → mark < length places → IsFollowed places marks mark mark 0
+  pub followed_none : (mark : ℕ) → mark < length places → IsFollowed places marks (begun mark)
   followed_none mark h = record {
     at = refl;
     within = at_first mark h;
-    free = λ i some none. absurd (omega arith);
+    free = λ k some less. absurd (omega arith);
+    last = λ some. absurd (omega arith);
+    some = λ ended. absurd (both_ways _ refl ended);
   }
 
-  pub followed_more : (mark number next k : ℕ) → IsFollowed places marks mark number k → next ≡ get_or places number 0 → next < length places → get_or marks next false ≡ false → IsFollowed places marks mark next (k + 1)
-  followed_more mark number next k f is within free =
-      let e = next_after places k mark number next f.at is in
+  -- one step more
+  abbrev stepped_to : Way → ℕ → Bool → Way
+  stepped_to way number has_ended = record { mark = way.mark; number = number; passed = way.passed + 1; has_ended = has_ended }
+
+  pub followed_more : (way : Way) (number : ℕ) (has_ended : Bool) → IsFollowed places marks way → way.has_ended ≡ false → number ≡ get_or places way.number 0 → number < length places → get_or marks number false ≡ has_ended → IsFollowed places marks (stepped_to way number has_ended)
+  followed_more way number has_ended f going is within ends =
+      let e = next_after places way.passed way.mark way.number number f.at is in
       record {
         at = e;
-        within = up_to (λ i. after places i mark < length places) k f.within (subst (λ y. y < length places) e within);
-        free = λ i some most. up_to (λ i. 1 ≤ i → is_marked places marks i mark ≡ false) k (λ i l s. f.free i s l) (λ s. ap (λ y. get_or marks y false) (sym e) ∙ free) i most some;
-      }
-
-  pub followed_way : (back : List ℕ) (mark number next k : ℕ) → IsFollowed places marks mark number k → next ≡ get_or places number 0 → next < length places → get_or marks next false ≡ true → back_from marks back next ≡ mark → k < stride (length places) → IsWay places marks back mark (k + 1)
-  followed_way back mark number next k f is within marked points few =
-      let e = next_after places k mark number next f.at is in
-      record {
-        some = omega arith;
-        few = omega arith;
-        within = up_to (λ i. after places i mark < length places) k f.within (subst (λ y. y < length places) e within);
-        free = λ i some most. f.free i some (omega arith);
-        marked = ap (λ y. get_or marks y false) (sym e) ∙ marked;
-        points = ap (back_from marks back) (sym e) ∙ points;
+        within = up_to (λ k. after places k way.mark < length places) way.passed f.within (subst (λ y. y < length places) e within);
+        free = λ k some less. elim (cases_lt k way.passed) [
+          | inl before ↦ f.free k some before
+          | inr end ↦ let same : way.passed ≡ k = omega arith in subst (λ k. 1 ≤ k → is_marked places marks k way.mark ≡ false) same (λ one. f.last one ∙ going) some
+        ];
+        last = λ some. ap (λ y. get_or marks y false) (sym e) ∙ ends;
+        some = λ ended. omega arith;
       }
 
   pub above_none : (least : ℕ) → least < length places → IsAbove places marks least least 0

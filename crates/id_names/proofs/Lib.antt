@@ -13,6 +13,7 @@ pub mod Many
 pub mod Following
 pub mod FoundAlong
 pub mod OnWays
+pub mod Waiting
 pub mod HighBits
 pub mod HighLaws
 pub mod Held

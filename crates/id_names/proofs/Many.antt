@@ -17,6 +17,13 @@ none_yet P = record {
   once = λ i j h l e. absurd (omega arith);
 }
 
+pub carried : (P Q : ℕ → Type 0) (n : ℕ) → ((y : ℕ) → P y → Q y) → AreMany P n → AreMany Q n
+carried P Q n wider p = record {
+  item = p.item;
+  each = λ i h. wider (p.item i) (p.each i h);
+  once = p.once;
+}
+
 module _ (P Q R : ℕ → Type 0) (a b : ℕ) (p : AreMany P a) (q : AreMany Q b) (apart : (y : ℕ) → P y → Q y → ⊥) (left : (y : ℕ) → P y → R y) (right : (y : ℕ) → Q y → R y) where
   abbrev both : ℕ → ℕ
   both i = cond (nat_lt i a) (p.item i) (q.item (i - a))

@@ -6,7 +6,7 @@ use Rattle.id_names.specs.Faults.{is_ordered, first_failing}
 use Rattle.id_names.specs.Inverse.{walk, back_from, stride, number_at}
 use Rattle.id_names.specs.Ways.{after, is_marked, IsWay, IsShortCycle, IsOnWay, IsOnCycle, AreMany}
 use Rattle.id_names.proofs.FoundAlong.{after_after, found_along, found_jump, IsFound, none_fails}
-use Rattle.id_names.proofs.Many.{none_yet, joined}
+use Rattle.id_names.proofs.Many.{none_yet, carried, joined}
 
 module _ (places : List ℕ) (marks : List Bool) (back : List ℕ) where
   -- the first mark from a number on stands at one distance
@@ -80,26 +80,25 @@ module _ (places : List ℕ) (marks : List Bool) (back : List ℕ) where
       let pointer : back_from marks back (after places on.far y) ≡ mark = ap (λ n. back_from marks back (after places n y)) same ∙ from.1 in
       omega (arith, on.before, pointer)
 
-  way_wider : (mark y : ℕ) → IsOnWay places marks back mark y → IsOnWay places marks back (mark + 1) y
-  way_wider mark y on = record {
+  way_wider : (bound wider y : ℕ) → bound ≤ wider → IsOnWay places marks back bound y → IsOnWay places marks back wider y
+  way_wider bound wider y h on = record {
     within = on.within;
     found = on.found;
     far = on.far;
     free = on.free;
     marked = on.marked;
-    before = omega (arith, on.before);
+    before = omega (arith, on.before, h);
   }
 
-  way_or_none : (mark count : ℕ) → (1 ≤ count → IsWay places marks back mark count) → AreMany (IsFrom mark) count
-  way_or_none mark count way = elim (cases_lt 0 count) [
-    | inl some ↦ way_many mark count (way some)
-    | inr none ↦ let e : 0 ≡ count = omega arith in subst (AreMany (IsFrom mark)) e (none_yet (IsFrom mark))
-  ]
+  -- the ways from the marks below a bound are those below a wider one, where no more are counted
+  pub ways_kept : (bound wider sum : ℕ) → bound ≤ wider → AreMany (IsOnWay places marks back bound) sum → AreMany (IsOnWay places marks back wider) sum
+  ways_kept bound wider sum h before = carried (IsOnWay places marks back bound) (IsOnWay places marks back wider) sum (λ y. way_wider bound wider y h) before
 
   -- the ways from the marks below one, and from that one
-  pub ways_more : (mark sum count : ℕ) → AreMany (IsOnWay places marks back mark) sum → (1 ≤ count → IsWay places marks back mark count) → AreMany (IsOnWay places marks back (mark + 1)) (sum + count)
-  ways_more mark sum count before way =
-      joined (IsOnWay places marks back mark) (IsFrom mark) (IsOnWay places marks back (mark + 1)) sum count before (way_or_none mark count way) (from_apart mark) (way_wider mark) (λ y from. from.0)
+  pub ways_more : (mark bound sum count : ℕ) → mark < bound → AreMany (IsOnWay places marks back mark) sum → IsWay places marks back mark count → AreMany (IsOnWay places marks back bound) (sum + count)
+  ways_more mark bound sum count h before way =
+      joined (IsOnWay places marks back mark) (IsFrom mark) (IsOnWay places marks back bound) sum count before (way_many mark count way) (from_apart mark)
+      (λ y. way_wider mark bound y (omega arith)) (λ y from. way_wider (mark + 1) bound y (omega arith) from.0)
 
   -- a place in the cycle of its least number
   abbrev IsIn : ℕ → ℕ → Type 0

@@ -3,6 +3,7 @@ use Rattle.std.specs.Prelude.{ℕ, ◌≡◌, ◌+◌, ◌<◌, ◌≤◌, Bool,
 use Rattle.std.specs.Option.{is_some}
 use Rattle.orbits.specs.Walks.{stepped}
 use Rattle.id_names.specs.Inverse.{stride, back_from, number_at}
+use Rattle.id_names.specs.declared.ways.Way.{Way}
 
 -- the number that so many steps along the places lead to
 abbrev pub after : List ℕ → ℕ → ℕ → ℕ
@@ -20,6 +21,18 @@ pub record IsWay (places : List ℕ) (marks : List Bool) (back : List ℕ) (mark
   pub free : (k : ℕ) → 1 ≤ k → k < count → is_marked places marks k mark ≡ false
   pub marked : is_marked places marks count mark ≡ true
   pub points : back_from marks back (after places count mark) ≡ mark
+
+-- a way from a mark, of which no step is taken
+abbrev pub begun : ℕ → Way
+begun mark = record { mark = mark; number = mark; passed = 0; has_ended = false }
+
+-- A way from a mark is followed up to a number: no mark lies between, and whether the number is the next one is known.
+pub record IsFollowed (places : List ℕ) (marks : List Bool) (way : Way) : Type 0 where
+  pub at : way.number ≡ after places way.passed way.mark
+  pub within : (k : ℕ) → k ≤ way.passed → after places k way.mark < length places
+  pub free : (k : ℕ) → 1 ≤ k → k < way.passed → is_marked places marks k way.mark ≡ false
+  pub last : 1 ≤ way.passed → is_marked places marks way.passed way.mark ≡ way.has_ended
+  pub some : way.has_ended ≡ true → 1 ≤ way.passed
 
 -- A number is the least of a cycle of so many, none of them marked.
 pub record IsShortCycle (places : List ℕ) (marks : List Bool) (least count : ℕ) : Type 0 where

@@ -63,6 +63,22 @@ fn seven() -> Words {
     }
 }
 
+/// Nine names in one cycle, of which three are marked: 2, 3, 4, 5, 6, 7, 8, 9, 1.
+fn nine() -> Words {
+    Words {
+        count: 9,
+        low: 21,
+        marked: 3,
+        high: 511,
+        high_counts: 9 << 32,
+        lows: [13194143727617, 13835071249426939906, 9895608844289],
+        places: 2271560481,
+        marks: 273,
+        mark_counts: 3 << 32,
+        back: 1032,
+    }
+}
+
 /// The names of an image, or the first fault. None where its sizes do not fit.
 fn open<'a, C: Ledger>(
     alloc: Global,
@@ -180,6 +196,14 @@ fn long_and_short_cycles_need_no_walks(rt: HostRuntime) -> Result<(), Fail> {
     let alloc = rt.alloc();
     assert!(rt; agrees(alloc, seven(), &[2, 3, 4, 5, 1, 7, 6], &[0, 8])?);
     assert!(rt; need_no_walks(alloc, seven())?);
+    Ok(())
+}
+
+#[test]
+fn a_mark_without_another_needs_no_walk(rt: HostRuntime) -> Result<(), Fail> {
+    let alloc = rt.alloc();
+    assert!(rt; agrees(alloc, nine(), &[2, 3, 4, 5, 6, 7, 8, 9, 1], &[0, 10])?);
+    assert!(rt; need_no_walks(alloc, nine())?);
     Ok(())
 }
 

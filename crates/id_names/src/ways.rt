@@ -31,40 +31,145 @@ fn pointer<C: Ledger>(inverse: Inverse<'_>, number: usize, steps: &mut Steps<C>)
     inverse.back.field(mark, steps) as usize
 }
 
-/// How many steps lead from a mark to the next one. 0 where the number is no mark, None where the next one points back
-/// to another number, or is too far away.
-fn way<C: Ledger>(
+/// A way from a mark, as far as it was followed.
+#[derive(Clone, Copy)]
+struct Way {
+    mark: usize,
+    /// Where it has come to.
+    number: usize,
+    /// How many steps lead there.
+    passed: usize,
+    /// Whether they have come to a mark.
+    has_ended: bool,
+}
+
+impl Way {
+    ghost use Rattle.std.specs.Prelude.{◌≡◌, ◌<◌, ◌≤◌, ◌+◌, length, true, false, IfSome, Some};
+    ghost use Rattle.bit_words.specs.PackedView.{fields_of};
+    ghost use Rattle.rank_select.specs.RankView.{counted};
+    ghost use Rattle.id_names.specs.Inverse.{stride};
+    ghost use Rattle.id_names.specs.Ways.{IsWay, IsFollowed, begun};
+
+    /// A way of which no step is taken.
+    fn begun(mark: usize) -> Way
+        ensures { result ≡ begun mark }
+    {
+        Way {
+            mark,
+            number: mark,
+            passed: 0,
+            has_ended: false,
+        }
+    }
+
+    /// One step more, unless the way has ended. None where it leads to no number.
+    #[inline]
+    fn step<C: Ledger>(
+        self,
+        inverse: Inverse<'_>,
+        seen: &mut RangeCounts,
+        steps: &mut Steps<C>,
+    ) -> Option<Way>
+        requires followed { IsFollowed (fields_of inverse.places) (counted inverse.marks) self }
+        requires few { self.passed < 64 }
+        ensures followed { IfSome result (λ way. IsFollowed (fields_of inverse.entry.places)
+            (counted inverse.entry.marks) way) }
+        ensures same { IfSome result (λ way. way.mark ≡ self.mark) }
+        ensures one_more { IfSome result (λ way. self.has_ended ≡ false → way.passed ≡ self.passed + 1) }
+        ensures most { IfSome result (λ way. way.passed ≤ self.passed + 1) }
+        ensures ended { self.has_ended ≡ true → result ≡ Some self }
+        ensures grows { steps.old ≤ steps.new }
+        ensures cost { steps.new ≤ steps.old + 3 }
+    {
+        if self.has_ended {
+            return Some(self);
+        }
+        let number = inverse.places.field(self.number, steps) as usize;
+        if number >= inverse.places.count() {
+            return None;
+        }
+        seen.see(number);
+        Some(Way {
+            number,
+            passed: self.passed + 1,
+            has_ended: inverse.marks.bits().bit(number, steps),
+            ..self
+        })
+    }
+
+    /// How many steps lead to the next mark. None where it hasn't come, or points back to another number.
+    fn steps_to_mark<C: Ledger>(self, inverse: Inverse<'_>, steps: &mut Steps<C>) -> Option<usize>
+        requires followed { IsFollowed (fields_of inverse.places) (counted inverse.marks) self }
+        requires near { self.passed ≤ stride (length (fields_of inverse.places)) }
+        ensures way { IfSome result (λ count. IsWay (fields_of inverse.entry.places) (counted inverse.entry.marks)
+            (fields_of inverse.entry.back) self.mark count) }
+        ensures count { IfSome result (λ count. count ≡ self.passed) }
+        ensures grows { steps.old ≤ steps.new }
+        ensures cost { steps.new ≤ steps.old + 11 }
+    {
+        if self.has_ended && pointer(inverse, self.number, steps) == self.mark {
+            Some(self.passed)
+        } else {
+            None
+        }
+    }
+}
+
+/// How many steps lead from a mark to the next one. None where that one points back to another number, or is too far
+/// away.
+fn one_way<C: Ledger>(
     inverse: Inverse<'_>,
     mark: usize,
     seen: &mut RangeCounts,
     steps: &mut Steps<C>,
 ) -> Option<usize>
     requires within { mark < length (fields_of inverse.places) }
-    ensures way { IfSome result (λ count. 1 ≤ count → IsWay (fields_of inverse.entry.places)
+    ensures way { IfSome result (λ count. IsWay (fields_of inverse.entry.places)
         (counted inverse.entry.marks) (fields_of inverse.entry.back) mark count) }
     ensures few { IfSome result (λ count. count ≤ 64) }
     ensures grows { steps.old ≤ steps.new }
-    ensures cost { steps.new ≤ steps.old + 3 * digits (length (fields_of inverse.entry.places) + 2) + 12 }
+    ensures cost { steps.new ≤ steps.old + 3 * digits (length (fields_of inverse.entry.places) + 2) + 11 }
 {
-    if !inverse.marks.bits().bit(mark, steps) {
-        return Some(0);
-    }
-    let most = binary_digits(inverse.places.count() + 2) as usize;
-    let mut number = mark;
-    for passed in 0..most {
-        number = inverse.places.field(number, steps) as usize;
-        if number >= inverse.places.count() {
-            return None;
+    let mut way = Way::begun(mark);
+    for _ in 0..binary_digits(inverse.places.count() + 2) {
+        if way.has_ended {
+            break;
         }
-        seen.see(number);
-        if inverse.marks.bits().bit(number, steps) {
-            if pointer(inverse, number, steps) != mark {
-                return None;
-            }
-            return Some(passed + 1);
-        }
+        way = way.step(inverse, seen, steps)?;
     }
-    None
+    way.steps_to_mark(inverse, steps)
+}
+
+/// The same for two marks, side by side: what is read on one way doesn't wait for what is read on the other.
+fn two_ways<C: Ledger>(
+    inverse: Inverse<'_>,
+    first: usize,
+    second: usize,
+    seen: &mut RangeCounts,
+    steps: &mut Steps<C>,
+) -> Option<(usize, usize)>
+    requires first_within { first < length (fields_of inverse.places) }
+    requires second_within { second < length (fields_of inverse.places) }
+    ensures first { IfSome result (λ counts. IsWay (fields_of inverse.entry.places)
+        (counted inverse.entry.marks) (fields_of inverse.entry.back) first counts.0) }
+    ensures second { IfSome result (λ counts. IsWay (fields_of inverse.entry.places)
+        (counted inverse.entry.marks) (fields_of inverse.entry.back) second counts.1) }
+    ensures few { IfSome result (λ counts. (counts.0 ≤ 64) × (counts.1 ≤ 64)) }
+    ensures grows { steps.old ≤ steps.new }
+    ensures cost { steps.new ≤ steps.old + 6 * digits (length (fields_of inverse.entry.places) + 2) + 22 }
+{
+    let mut one = Way::begun(first);
+    let mut other = Way::begun(second);
+    for _ in 0..binary_digits(inverse.places.count() + 2) {
+        if one.has_ended && other.has_ended {
+            break;
+        }
+        one = one.step(inverse, seen, steps)?;
+        other = other.step(inverse, seen, steps)?;
+    }
+    let from_first = one.steps_to_mark(inverse, steps)?;
+    let from_second = other.steps_to_mark(inverse, steps)?;
+    Some((from_first, from_second))
 }
 
 /// How many numbers are in the cycle of one without a mark, whose least it is. 0 where a mark or a smaller number is on
@@ -97,7 +202,8 @@ fn short_cycle<C: Ledger>(inverse: Inverse<'_>, least: usize, steps: &mut Steps<
     None
 }
 
-/// How many places are on ways from marks, or None where one of these isn't right.
+/// How many places are on ways from marks, or None where one of these isn't right. A mark waits for the next one, and
+/// their ways are followed together.
 fn on_ways<C: Ledger>(
     inverse: Inverse<'_>,
     seen: &mut RangeCounts,
@@ -111,8 +217,20 @@ fn on_ways<C: Ledger>(
         * (3 * digits (length (fields_of inverse.entry.places) + 2) + 12) }
 {
     let mut count = 0;
+    let mut waiting = None;
     for mark in 0..inverse.places.count() {
-        count += way(inverse, mark, seen, steps)?;
+        if inverse.marks.bits().bit(mark, steps) {
+            match waiting.take() {
+                None => waiting = Some(mark),
+                Some(first) => {
+                    let (from_first, from_mark) = two_ways(inverse, first, mark, seen, steps)?;
+                    count += from_first + from_mark;
+                }
+            }
+        }
+    }
+    if let Some(last) = waiting {
+        count += one_way(inverse, last, seen, steps)?;
     }
     Some(count)
 }
