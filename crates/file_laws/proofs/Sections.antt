@@ -121,7 +121,7 @@ pub record ContentFits (words : List ℕ) : Type 0 where
   pub regions : regions_fault words (contents_of words) ≡ None
   pub padding : padding_fault words ≡ None
 
-content_fits : (words : List ℕ) → content_fault words ≡ None → ContentFits words
+pub content_fits : (words : List ℕ) → content_fault words ≡ None → ContentFits words
 unfolding content_fault
 content_fits words h =
     let c = contents_of words in

@@ -11,6 +11,7 @@ use Rattle.parens.specs.Matching.{balance_fault}
 use Rattle.parens.proofs.Balances.{IsBalanced, balanced-from}
 use Rattle.code_laws.specs.Code.{start_of}
 use Rattle.code_laws.specs.Numbers.{ring_of, is_outer, first_of_edge, tree_edges}
+use Rattle.code_laws.specs.SeqFault.{is_sound}
 use Rattle.code_laws.specs.declared.ring_number.RingNumber.TheVariants.{Outer}
 use Rattle.id_names.specs.Names.{AreDistinctIds}
 use Rattle.id_names.proofs.NumberLaws.{names_from_test}
@@ -126,6 +127,10 @@ module _ (c : Contents) where
       let b = first_none (option_map (fault.Place 18) (order_fault c)) _ a.1 in
       let d = first_none (option_map (fault.Place 19) (isolated_fault c)) _ b.1 in
       (option_none (fault.Place 17) (place_fault c) a.0, option_none (fault.Place 18) (order_fault c) b.0, option_none (fault.Place 19) (isolated_fault c) d.0)
+
+  pub whole_sound : is_whole c ≡ true → is_sound c.code ≡ true
+  unfolding is_whole
+  whole_sound h = test_at (whole_tests c) 1 h
 
   pub whole_parts : is_whole c ≡ true → WholeParts c
   unfolding is_whole

@@ -8,14 +8,16 @@ use Rattle.bit_words.specs.Digits.{digits}
 use Rattle.bit_words.proofs.DigitLaws.{digits-halved, digits-mono}
 use Rattle.rank_select.proofs.Selects.{selected}
 use Rattle.parens.specs.Matching.{is_open, mate_of, pair_number, innermost}
-use Rattle.code_laws.specs.Code.{Code, is_tree, is_first, parens, place, mate, component_of, component_count, start_of, end_of}
+use Rattle.code_laws.specs.Code.{Code, is_tree, is_first, parens, place, mate, after, component_of, component_count, start_of, end_of}
 use Rattle.code_laws.specs.Numbers.{edge_of, node_of, ring_of, node_or_root, shell_or_outer, enclosing_pair, tree_edges, first_of_edge, first_of_node, first_of_shell, opening_position, one_on, edge_count, node_count, shell_count}
 use Rattle.code_laws.specs.SeqFault.{is_sound}
 use Rattle.code_laws.specs.declared.ring_number.RingNumber.TheVariants.{Outer, Shell}
 use Rattle.code_laws.proofs.Sound.{sound_parts, rises, start_within, places_within, in_one, is_component, first_start, last_start}
 use Rattle.code_laws.proofs.Edges.{place_in, laws, edge_within}
+use Rattle.code_laws.proofs.Beside.{next_ring, turn_node}
 use Rattle.code_laws.proofs.Mates.{first_at}
 use Rattle.code_laws.proofs.Numbered.{round_below}
+use Rattle.code_laws.proofs.Places.{over_mate}
 use Rattle.code_laws.proofs.Selects.{pairs, edge_by_select, node_by_select, edge_none, node_none, shell_none, shell_by_select, node_within, node_first-within, shell_first-within}
 
 pub ruleset halving = (digits-halved, digits-mono)
@@ -138,6 +140,20 @@ module _ (c : Code) (h : is_sound c ≡ true) where
   pub outer_found : (p : ℕ) → None ≡ enclosing_pair c false p → Outer (component_of c p) ≡ ring_of c p
   unfolding ring_of
   outer_found p e = ap (shell_or_outer c p) e
+
+  -- the position after one of an edge that is none of the trees is of its mate's ring, and of one that is stands round
+  -- the mate's node
+  pub ring_after : (p : ℕ) → p < length c.a → is_tree c p ≡ false → ring_of c (after c p) ≡ ring_of c (mate c p)
+  ring_after p l is =
+      let s = sound_parts c h in
+      let k = laws c s p l in
+      ap (ring_of c) (sym (ap (after c) (over_mate c false (mate c p) (k.kind ∙ is) ∙ k.back))) ∙ (next_ring c s (mate c p) k.within).1
+
+  pub node_after : (p : ℕ) → p < length c.a → is_tree c p ≡ true → node_of c (after c p) ≡ node_of c (mate c p)
+  node_after p l is =
+      let s = sound_parts c h in
+      let k = laws c s p l in
+      ap (node_of c) (sym (ap (after c) (over_mate c true (mate c p) (k.kind ∙ is) ∙ k.back))) ∙ (turn_node c s (mate c p) k.within).1
 
   pub pair_below : (kind : Bool) (p pair : ℕ) → p < length c.a → Some pair ≡ enclosing_pair c kind p → pair < length c.a
   pair_below kind p pair l e =

@@ -109,6 +109,15 @@ fn undone<C: Ledger>(view: TuranView<'_>, p: usize, steps: &mut Steps<C>) -> boo
     view.next_back(next, steps) == p && view.turn_back(turn, steps) == p
 }
 
+/// Whether across the edge of position `p` stands what stands at its mate.
+fn is_crossed<C: Ledger>(view: TuranView<'_>, p: usize, steps: &mut Steps<C>) -> bool
+    requires { p < length (code_of_view view).a }
+{
+    let mate = view.mate(p, steps);
+    view.node_reached(p, steps) == view.node_of(mate, steps)
+        && view.ring_across(p, steps) == view.ring_of(mate, steps)
+}
+
 /// The first wrong position of a view, among each `stride`th and the last ones of the components.
 fn wrong_position<C: Ledger>(
     view: TuranView<'_>,
@@ -124,7 +133,9 @@ fn wrong_position<C: Ledger>(
     for p in 0..view.len() {
         let last = want.component.get(p) != want.component.get(p + 1);
         if (last || p % stride == 0)
-            && (want.said_at(p) != Some(said_at(view, p, steps)) || !undone(view, p, steps))
+            && (want.said_at(p) != Some(said_at(view, p, steps))
+                || !undone(view, p, steps)
+                || !is_crossed(view, p, steps))
         {
             return Some(p);
         }

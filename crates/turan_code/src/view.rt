@@ -460,6 +460,51 @@ impl<'a> TuranView<'a> {
         }
     }
 
+    /// A position round the node that the mate of position `p` leaves, or, where `kind` is false, of the mate's ring:
+    /// the mate, where the edge is of the other kind, and else the position that follows the mate there. So no mate is
+    /// looked for where the edge is of this kind.
+    fn beside_mate<C: Ledger>(&self, kind: bool, p: usize, steps: &mut Steps<C>) -> usize
+        requires { p < length (code_of_view self.now).a }
+        ensures node { kind ≡ true
+            → node_of (code_of_view self.now) result ≡ node_of (code_of_view self.now) (mate (code_of_view self.now) p) }
+        ensures ring { kind ≡ false
+            → ring_of (code_of_view self.now) result ≡ ring_of (code_of_view self.now) (mate (code_of_view self.now) p) }
+        ensures within { result < length (code_of_view self.now).a }
+        ensures some_steps { steps.old + 1 ≤ steps.new }
+        ensures cost { steps.new ≤ steps.old + 7 * digits (length (code_of_view self.now).a + 2) + 61 }
+    {
+        let own = self.is_tree(p, steps);
+        if own == kind {
+            self.after(p, steps)
+        } else {
+            self.mate_of_kind(own, p, steps)
+        }
+    }
+
+    /// The number of the node that the edge at position `p` reaches: the one that its mate leaves.
+    pub fn node_reached<C: Ledger>(&self, p: usize, steps: &mut Steps<C>) -> u32
+        requires { p < length (code_of_view self.now).a }
+        ensures node { result ≡ node_of (code_of_view self.now) (mate (code_of_view self.now) p) }
+        ensures within { result < node_count (code_of_view self.now) }
+        ensures some_steps { steps.old + 1 ≤ steps.new }
+        ensures cost { steps.new ≤ steps.old + 13 * digits (length (code_of_view self.now).a + 2) + 121 }
+    {
+        let beside = self.beside_mate(true, p, steps);
+        self.node_of(beside, steps)
+    }
+
+    /// The ring across the edge at position `p`: that of its mate.
+    pub fn ring_across<C: Ledger>(&self, p: usize, steps: &mut Steps<C>) -> RingNumber
+        requires { p < length (code_of_view self.now).a }
+        ensures ring { result ≡ ring_of (code_of_view self.now) (mate (code_of_view self.now) p) }
+        ensures within { IsTrue (has_ring (code_of_view self.now) result) }
+        ensures some_steps { steps.old + 1 ≤ steps.new }
+        ensures cost { steps.new ≤ steps.old + 13 * digits (length (code_of_view self.now).a + 2) + 121 }
+    {
+        let beside = self.beside_mate(false, p, steps);
+        self.ring_of(beside, steps)
+    }
+
     /// The place that opens the pair of place `place` of one kind, and whether it is that one.
     fn opening<C: Ledger>(&self, kind: bool, place: usize, steps: &mut Steps<C>) -> (usize, bool)
         requires { place < length (parens (code_of_view self.now) kind) }
