@@ -1,6 +1,6 @@
 -- The lists of the map by positions.
-use Rattle.std.specs.Prelude.{ℤ, map, filter, slice_index, option_map, find, ◌==◌}
-use Rattle.std.proofs.Common.{◌≡◌, ℕ, ◌<◌, ◌≤◌, inl, inr, true, false, List, [], ◌∷◌, length, refl, ap, sym, ◌∙◌, arith, subst, Some}
+use Rattle.std.specs.Prelude.{ℤ, map, filter, slice_index, option_map, find, not, if◌then◌else◌, ◌==◌}
+use Rattle.std.proofs.Common.{◌≡◌, ℕ, ◌<◌, ◌≤◌, inl, inr, Bool, true, false, List, [], ◌∷◌, length, refl, ap, sym, ◌∙◌, arith, subst, Some}
 use Rattle.std.proofs.lemmas.Bool.{cases_Bool, eqb-true, or_left, or_right, or_cases}
 use Rattle.orbits.proofs.Lists.{same_tests, from_filter}
 use Rattle.topo_base.specs.SignedEdge.{comes_before, reverse}
@@ -12,15 +12,16 @@ use Rattle.plane_model.proofs.SetLaws.{same_edges, same_self}
 use Rattle.plane_model.proofs.SortedEdges.{smallest_found, smallest_least, smallest-same, rising_filter}
 use Rattle.plane_model.proofs.NodeRounds.{round_leaves}
 use Rattle.plane_model.proofs.RotationOrbits.{turn_permutes}
-use Rattle.code_laws.specs.Code.{mate, next}
+use Rattle.code_laws.specs.Code.{mate, next, step}
 use Rattle.code_laws.specs.Numbers.{node_of, node_count}
 use Rattle.code_laws.specs.Orbits.{orbit}
+use Rattle.code_laws.proofs.Edges.{laws}
 use Rattle.code_laws.proofs.Selects.{node_within}
 use Rattle.file_laws.specs.Contents.{Contents}
 use Rattle.file_laws.specs.MapOfFile.{signed_at, node_at, face_at, joined_count, rows_of_contents}
 use Rattle.file_laws.specs.Agreement.{Agrees}
 use Rattle.file_laws.specs.Lawful.{is_whole}
-use Rattle.file_laws.proofs.Agreement.{agrees}
+use Rattle.file_laws.proofs.Agreement.{agrees, next_mate}
 use Rattle.file_laws.proofs.Consistency.{position_of, leaves_head}
 use Rattle.file_laws.proofs.Fits.{components_same, node_in}
 use Rattle.file_laws.proofs.Whole.{WholeParts, whole_parts}
@@ -146,3 +147,19 @@ module _ (c : Contents) (h : is_whole c ≡ true) where
 
   pub reversed_at : (p : ℕ) (d : ℤ) → p < length c.code.a → signed_at c p ≡ d → signed_at c (mate c.code p) ≡ reverse d
   reversed_at p d l e = a.reversed p l ∙ ap reverse e
+
+  -- the edge's two positions, of which the first is the signed edge's own or not
+  pub other_at : (first : ℕ) (own : Bool) (d : ℤ) → first < length c.code.a → signed_at c (if own then first else mate c.code first) ≡ d
+      → signed_at c (if own then mate c.code first else first) ≡ reverse d
+  other_at first true d l e = reversed_at first d l e
+  other_at first false d l e =
+      let k = laws c.code w.seen.sound first l in
+      ap (signed_at c) (sym k.back) ∙ reversed_at (mate c.code first) d k.within e
+
+  -- what follows on the ring of the one that is its own
+  pub next_of : (first : ℕ) (own : Bool) (d : ℤ) → first < length c.code.a → signed_at c (if own then first else mate c.code first) ≡ d
+      → signed_at c (step c.code (not own) first) ≡ next_edge m d
+  next_of first true d l e = next_at first d l e
+  next_of first false d l e =
+      let k = laws c.code w.seen.sound first l in
+      ap (signed_at c) (sym (next_mate c.code first k)) ∙ next_at (mate c.code first) d k.within e

@@ -1,10 +1,15 @@
 -- The faces across the edges at positions, by their places: 0 for face 0, and else 1 + the number of the face.
-use Rattle.std.specs.Prelude.{ℕ, ◌==◌, not, List, map, filter}
+use Rattle.std.specs.Prelude.{ℕ, ◌≡◌, ◌<◌, ◌==◌, not, List, length, map, filter}
 use Rattle.code_laws.specs.Code.{mate}
 use Rattle.code_laws.specs.Numbers.{ring_of}
+use Rattle.code_laws.specs.declared.ring_number.RingNumber.{RingNumber}
 use Rattle.plane_model.specs.Sets.{first_occurrences, first_occurrences_but}
 use Rattle.file_laws.specs.Contents.{Contents}
 use Rattle.file_laws.specs.MapOfFile.{place_of_ring}
+
+-- a ring that some position has
+abbrev pub IsSomeRing : Contents → RingNumber → Type 0
+IsSomeRing c ring = (p : ℕ) × (p < length c.code.a) × (ring ≡ ring_of c.code p)
 
 -- the place of the face across the edge at a position
 unfoldable pub place_across : Contents → ℕ → ℕ

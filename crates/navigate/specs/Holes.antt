@@ -1,6 +1,5 @@
 -- The components and isolated nodes that lie at one place, which is a face's: 0 for face 0, and else 1 + its number.
-use Rattle.std.specs.Prelude.{ℕ, ◌+◌, ◌-◌, ◌==◌, false, List, [], ◌∷◌, ◌++◌, filter, take, drop, length, slice_index}
-use Rattle.std.specs.List.{range_with_len}
+use Rattle.std.specs.Prelude.{ℕ, ◌-◌, ◌==◌, false, List, [], ◌∷◌, ◌++◌, filter, take, drop, slice_index}
 use Rattle.code_laws.specs.Code.{start_of}
 use Rattle.code_laws.specs.Orbits.{orbit}
 use Rattle.file_laws.specs.Contents.{Contents}

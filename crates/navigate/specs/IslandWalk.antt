@@ -1,5 +1,5 @@
 -- What a walk over the components and isolated nodes in a face still gives, and what it may still read.
-use Rattle.std.specs.Prelude.{ℕ, ◌+◌, ◌-◌, ◌*◌, ℤ, List, map, length, ◌++◌, slice_index}
+use Rattle.std.specs.Prelude.{ℕ, ◌+◌, ◌-◌, ◌*◌, ℤ, List, map, length, ◌++◌}
 use Rattle.std.specs.List.{range_with_len}
 use Rattle.topo_base.specs.Script.{Item}
 use Rattle.code_laws.specs.Code.{start_of}

@@ -133,8 +133,7 @@ impl<'a> FaceWalk<'a> {
         ensures some_steps { steps.old + 1 ≤ steps.new }
         ensures cost { steps.new ≤ steps.old + (13 * line_digits (contents_in self.now) + 123) }
     {
-        let mate = positions::mate_of(self.served, p, steps);
-        positions::place_beside(self.served, mate, steps)
+        positions::place_across(self.served, p, steps)
     }
 
     /// The face at a place.

@@ -22,10 +22,11 @@ pub fn next<C: Ledger>(served: Served<'_>, edge: Signed, steps: &mut Steps<C>) -
     ensures paid { MatchOption result (steps.new ≤ steps.old + most_words (served_map served.entry) 0 0)
         (λ _. steps.new ≤ steps.old + most_words (served_map served.entry) 0 1) }
 {
-    let Some(p) = positions::position_of(served, edge, steps) else {
+    let Some((first, is_own)) = positions::first_position(served, edge, steps) else {
         return None;
     };
-    let next = positions::step_from(served, false, p, steps);
+    // what follows the edge's other position is what follows the first one round its node
+    let next = positions::step_from(served, !is_own, first, steps);
     Some(positions::edge_at(served, next, steps))
 }
 
@@ -43,12 +44,16 @@ pub fn ends<C: Ledger>(
     ensures paid { MatchOption result (steps.new ≤ steps.old + most_words (served_map served.entry) 0 0)
         (λ _. steps.new ≤ steps.old + most_words (served_map served.entry) 0 2) }
 {
-    let Some((p, mate)) = positions::both_positions(served, edge, steps) else {
+    let Some((first, is_own)) = positions::first_position(served, edge, steps) else {
         return None;
     };
-    let from = names::node_left(served, p, steps);
-    let to = names::node_left(served, mate, steps);
-    Some((from, to))
+    let left = names::node_left(served, first, steps);
+    let reached = names::node_reached(served, first, steps);
+    if is_own {
+        Some((left, reached))
+    } else {
+        Some((reached, left))
+    }
 }
 
 /// The faces on the left and on the right of a signed edge. None where the map has no such edge.
@@ -65,12 +70,16 @@ pub fn sides<C: Ledger>(
     ensures paid { MatchOption result (steps.new ≤ steps.old + most_words (served_map served.entry) 0 0)
         (λ _. steps.new ≤ steps.old + most_words (served_map served.entry) 0 2) }
 {
-    let Some((p, mate)) = positions::both_positions(served, edge, steps) else {
+    let Some((first, is_own)) = positions::first_position(served, edge, steps) else {
         return None;
     };
-    let left = names::face_beside(served, p, steps);
-    let right = names::face_beside(served, mate, steps);
-    Some((left, right))
+    let left = names::face_beside(served, first, steps);
+    let right = names::face_across(served, first, steps);
+    if is_own {
+        Some((left, right))
+    } else {
+        Some((right, left))
+    }
 }
 
 /// The face that contains an isolated node, or else the one that contains the node's component. None where the map has

@@ -1,6 +1,7 @@
 //! Nodes and faces by their ids.
 
 ghost use Rattle.std.specs.Prelude.{◌≡◌, ◌<◌, ◌≤◌, ◌+◌, ◌*◌, length, slice_index, is_some, IfSome, Some};
+ghost use Rattle.code_laws.specs.Code.{mate};
 ghost use Rattle.plane_model.specs.Answers.{has_node};
 ghost use Rattle.plane_model.specs.Rotation.{is_face};
 ghost use Rattle.file_laws.specs.MapOfFile.{face_at_place, face_at, node_at};
@@ -9,7 +10,7 @@ ghost use Rattle.file_laws.specs.Faults.{isolated_id};
 ghost use Rattle.pemb_file.specs.Served.{contents_of_view};
 ghost use Rattle.navigate.specs.Bound.{served_map, line_digits};
 
-use crate::positions::place_beside;
+use crate::positions::{place_across, place_beside};
 use bit_words::Steps;
 use pemb_file::Served;
 use std::sync::ledger::Ledger;
@@ -83,6 +84,28 @@ pub fn face_beside<C: Ledger>(served: Served<'_>, p: usize, steps: &mut Steps<C>
     ensures cost { steps.new ≤ steps.old + (9 * line_digits (contents_of_view served.entry) + 82) }
 {
     let place = place_beside(served, p, steps);
+    face_in(served, place, steps)
+}
+
+/// The node that the signed edge of a position reaches.
+pub fn node_reached<C: Ledger>(served: Served<'_>, p: usize, steps: &mut Steps<C>) -> NodeId
+    requires { p < length (contents_of_view served).code.a }
+    ensures node { result.0 ≡ node_at (contents_of_view served.entry) (mate (contents_of_view served.entry).code p) }
+    ensures some_steps { steps.old + 1 ≤ steps.new }
+    ensures cost { steps.new ≤ steps.old + (16 * line_digits (contents_of_view served.entry) + 141) }
+{
+    let number = served.code().node_reached(p, steps) as usize;
+    NodeId(served.nodes().id_of(number, steps))
+}
+
+/// The face on the right of the signed edge of a position.
+pub fn face_across<C: Ledger>(served: Served<'_>, p: usize, steps: &mut Steps<C>) -> FaceId
+    requires { p < length (contents_of_view served).code.a }
+    ensures face { result.0 ≡ face_at (contents_of_view served.entry) (mate (contents_of_view served.entry).code p) }
+    ensures some_steps { steps.old + 1 ≤ steps.new }
+    ensures cost { steps.new ≤ steps.old + (16 * line_digits (contents_of_view served.entry) + 143) }
+{
+    let place = place_across(served, p, steps);
     face_in(served, place, steps)
 }
 

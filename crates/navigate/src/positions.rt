@@ -6,6 +6,7 @@ ghost use Rattle.code_laws.specs.Numbers.{edge_of, ring_of};
 ghost use Rattle.plane_model.specs.Answers.{has_signed_edge};
 ghost use Rattle.file_laws.specs.MapOfFile.{signed_at, place_of_ring};
 ghost use Rattle.pemb_file.specs.Served.{contents_of_view};
+ghost use Rattle.navigate.specs.Beside.{place_across, IsSomeRing};
 ghost use Rattle.navigate.specs.Bound.{line_digits, served_map};
 
 use crate::directed::with_direction;
@@ -77,7 +78,7 @@ pub fn edge_at<C: Ledger>(served: Served<'_>, p: usize, steps: &mut Steps<C>) ->
 
 /// The first position of a signed edge's edge, and whether it is the signed edge's own. None where the map lacks the
 /// edge.
-fn first_position<C: Ledger>(
+pub fn first_position<C: Ledger>(
     served: Served<'_>,
     edge: Signed,
     steps: &mut Steps<C>,
@@ -121,29 +122,17 @@ pub fn position_of<C: Ledger>(
     }
 }
 
-/// The position of a signed edge, and that of the edge the other way. None where the map lacks the edge.
-pub fn both_positions<C: Ledger>(
-    served: Served<'_>,
-    edge: Signed,
-    steps: &mut Steps<C>,
-) -> Option<(usize, usize)>
-    ensures known { is_some result ≡ has_signed_edge (served_map served.entry) edge }
-    ensures within { IfSome result (λ pair. (pair.0 < length (contents_of_view served.entry).code.a)
-        × (pair.1 < length (contents_of_view served.entry).code.a)) }
-    ensures edge { IfSome result (λ pair. signed_at (contents_of_view served.entry) pair.0 ≡ edge) }
-    ensures mate { IfSome result (λ pair. pair.1 ≡ mate (contents_of_view served.entry).code pair.0) }
+/// The place of a ring: 0 for one of face 0, and else 1 + the number of its face.
+fn place_of_ring<C: Ledger>(served: Served<'_>, ring: RingNumber, steps: &mut Steps<C>) -> usize
+    requires { IsSomeRing (contents_of_view served) ring }
+    ensures place { result ≡ place_of_ring (contents_of_view served.entry) ring }
+    ensures within { result ≤ length (contents_of_view served.entry).faces }
     ensures grows { steps.old ≤ steps.new }
-    ensures least { IfSome result (λ _. steps.old + 1 ≤ steps.new) }
-    ensures cost { steps.new ≤ steps.old + (25 * line_digits (contents_of_view served.entry) + 146) }
+    ensures cost { steps.new ≤ steps.old + 2 }
 {
-    let Some((first, is_own)) = first_position(served, edge, steps) else {
-        return None;
-    };
-    let mate = mate_of(served, first, steps);
-    if is_own {
-        Some((first, mate))
-    } else {
-        Some((mate, first))
+    match ring {
+        RingNumber::Outer(component) => served.place(component as usize, steps) as usize,
+        RingNumber::Shell(shell) => shell as usize + 1,
     }
 }
 
@@ -156,9 +145,18 @@ pub fn place_beside<C: Ledger>(served: Served<'_>, p: usize, steps: &mut Steps<C
     ensures some_steps { steps.old + 1 ≤ steps.new }
     ensures cost { steps.new ≤ steps.old + (6 * line_digits (contents_of_view served.entry) + 62) }
 {
-    let code = served.code();
-    match code.ring_of(p, steps) {
-        RingNumber::Outer(component) => served.place(component as usize, steps) as usize,
-        RingNumber::Shell(shell) => shell as usize + 1,
-    }
+    let ring = served.code().ring_of(p, steps);
+    place_of_ring(served, ring, steps)
+}
+
+/// The place of the face across the edge at a position: that of the face on the left of its mate.
+pub fn place_across<C: Ledger>(served: Served<'_>, p: usize, steps: &mut Steps<C>) -> usize
+    requires { p < length (contents_of_view served).code.a }
+    ensures place { result ≡ place_across (contents_of_view served.entry) p }
+    ensures within { result ≤ length (contents_of_view served.entry).faces }
+    ensures some_steps { steps.old + 1 ≤ steps.new }
+    ensures cost { steps.new ≤ steps.old + (13 * line_digits (contents_of_view served.entry) + 123) }
+{
+    let ring = served.code().ring_across(p, steps);
+    place_of_ring(served, ring, steps)
 }

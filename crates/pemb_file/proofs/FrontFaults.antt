@@ -71,34 +71,34 @@ front-parts : (bytes : List ℕ) → front_fault bytes ≡ parts bytes (words_of
 unfolding front_fault parts
 front-parts bytes = refl
 
-front-begun : (bytes : List ℕ) (e : FileFault) → front_fault bytes ≡ Some e → begun_fault bytes ≡ Some e
+pub front-begun : (bytes : List ℕ) (e : FileFault) → front_fault bytes ≡ Some e → begun_fault bytes ≡ Some e
 front-begun bytes e h = ap (λ o. or_else o (or_else (digest_fault bytes) (count_fault (counts_in (words_of bytes))))) h
 
-pub at-bytes : (bytes : List ℕ) (e : FileFault) → bytes_part bytes ≡ Some e → begun_fault bytes ≡ Some e
+pub at-bytes : (bytes : List ℕ) (e : FileFault) → bytes_part bytes ≡ Some e → front_fault bytes ≡ Some e
 unfolding parts
-at-bytes bytes e h = front-begun bytes e (front-parts bytes ∙ first-some (bytes_part bytes) _ e h)
+at-bytes bytes e h = front-parts bytes ∙ first-some (bytes_part bytes) _ e h
 
-pub at-head : (bytes words : List ℕ) (e : FileFault) → words ≡ words_of bytes → bytes_part bytes ≡ None → head_part words ≡ Some e → begun_fault bytes ≡ Some e
+pub at-head : (bytes words : List ℕ) (e : FileFault) → words ≡ words_of bytes → bytes_part bytes ≡ None → head_part words ≡ Some e → front_fault bytes ≡ Some e
 unfolding parts
 at-head bytes words e same a h =
-    front-begun bytes e (front-parts bytes ∙ ap (parts bytes) (sym same) ∙ first-none (bytes_part bytes) _ a ∙ first-some (head_part words) _ e h)
+    front-parts bytes ∙ ap (parts bytes) (sym same) ∙ first-none (bytes_part bytes) _ a ∙ first-some (head_part words) _ e h
 
-pub at-form : (bytes words : List ℕ) (e : FileFault) → words ≡ words_of bytes → bytes_part bytes ≡ None → head_part words ≡ None → form_part words ≡ Some e → begun_fault bytes ≡ Some e
+pub at-form : (bytes words : List ℕ) (e : FileFault) → words ≡ words_of bytes → bytes_part bytes ≡ None → head_part words ≡ None → form_part words ≡ Some e → front_fault bytes ≡ Some e
 unfolding parts
 at-form bytes words e same a b h =
-    front-begun bytes e (front-parts bytes ∙ ap (parts bytes) (sym same) ∙ first-none (bytes_part bytes) _ a ∙ first-none (head_part words) _ b ∙ first-some (form_part words) _ e h)
+    front-parts bytes ∙ ap (parts bytes) (sym same) ∙ first-none (bytes_part bytes) _ a ∙ first-none (head_part words) _ b ∙ first-some (form_part words) _ e h
 
-pub at-header : (bytes words : List ℕ) (e : FileFault) → words ≡ words_of bytes → bytes_part bytes ≡ None → head_part words ≡ None → form_part words ≡ None → header_part words ≡ Some e → begun_fault bytes ≡ Some e
+pub at-header : (bytes words : List ℕ) (e : FileFault) → words ≡ words_of bytes → bytes_part bytes ≡ None → head_part words ≡ None → form_part words ≡ None → header_part words ≡ Some e → front_fault bytes ≡ Some e
 unfolding parts
 at-header bytes words e same a b d h =
-    front-begun bytes e (front-parts bytes ∙ ap (parts bytes) (sym same) ∙ first-none (bytes_part bytes) _ a ∙ first-none (head_part words) _ b ∙ first-none (form_part words) _ d
-    ∙ first-some (wanted_part words) _ e (short-wanted words e h))
+    front-parts bytes ∙ ap (parts bytes) (sym same) ∙ first-none (bytes_part bytes) _ a ∙ first-none (head_part words) _ b ∙ first-none (form_part words) _ d
+    ∙ first-some (wanted_part words) _ e (short-wanted words e h)
 
-pub at-length : (bytes words : List ℕ) (c : HeaderCounts) (e : FileFault) → words ≡ words_of bytes → c ≡ counts_in words → bytes_part bytes ≡ None → head_part words ≡ None → form_part words ≡ None → header_part words ≡ None → length_part words c ≡ Some e → begun_fault bytes ≡ Some e
+pub at-length : (bytes words : List ℕ) (c : HeaderCounts) (e : FileFault) → words ≡ words_of bytes → c ≡ counts_in words → bytes_part bytes ≡ None → head_part words ≡ None → form_part words ≡ None → header_part words ≡ None → length_part words c ≡ Some e → front_fault bytes ≡ Some e
 unfolding parts
 at-length bytes words c e same is a b d i h =
-    front-begun bytes e (front-parts bytes ∙ ap (parts bytes) (sym same) ∙ first-none (bytes_part bytes) _ a ∙ first-none (head_part words) _ b ∙ first-none (form_part words) _ d
-    ∙ first-some (wanted_part words) _ e (long-wanted words i ∙ ap (length_part words) (sym is) ∙ h))
+    front-parts bytes ∙ ap (parts bytes) (sym same) ∙ first-none (bytes_part bytes) _ a ∙ first-none (head_part words) _ b ∙ first-none (form_part words) _ d
+    ∙ first-some (wanted_part words) _ e (long-wanted words i ∙ ap (length_part words) (sym is) ∙ h)
 
 -- the front without fault
 pub front-none : (bytes words : List ℕ) (c : HeaderCounts) → words ≡ words_of bytes → c ≡ counts_in words → bytes_part bytes ≡ None → head_part words ≡ None → form_part words ≡ None → header_part words ≡ None → length_part words c ≡ None → front_fault bytes ≡ None

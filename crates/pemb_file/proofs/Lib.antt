@@ -15,6 +15,7 @@ pub mod Rights
 pub mod Opened
 pub mod Nots
 pub mod PlaceSteps
+pub mod OuterRings
 pub mod Smallest
 pub mod PlacedParts
 pub mod Cost

@@ -49,7 +49,7 @@ unfolding start_fault signed_at contents_of
 same_starts words c e = rw e refl
 
 pub placed-cost : (words : List ℕ) (c : Contents) → c ≡ without_regions words
-    → length c.code.a * (13 * digits (length c.code.a + 2) + 157) + length c.places * (19 * digits (length c.code.a + 2) + 141) + (length c.places * (38 * digits (length c.code.a + 2) + 292) + length c.isolated * (6 * digits (length c.nodes + 2) + 44))
+    → length c.code.a * (7 * digits (length c.code.a + 2) + 84) + length c.places * 4 + (length c.places * (38 * digits (length c.code.a + 2) + 292) + length c.isolated * (6 * digits (length c.nodes + 2) + 44))
     ≡ placed_cost (counts_in words)
 unfolding contents_of
 placed-cost words c e =

@@ -1,14 +1,14 @@
 -- The smallest signed edge of an outer ring.
-use Rattle.std.specs.Prelude.{not, option_map}
-use Rattle.std.proofs.Common.{◌≡◌, ℕ, zero, suc, ◌+◌, ◌-◌, ◌*◌, ◌<◌, ◌≤◌, inl, inr, Bool, true, false, ◌&&◌, length, refl, ap, sym, ◌∙◌, arith, Option, Some, None}
+use Rattle.std.specs.Prelude.{not, option_map, ℤ}
+use Rattle.std.proofs.Common.{◌≡◌, ℕ, zero, suc, ◌+◌, ◌-◌, ◌*◌, ◌<◌, ◌≤◌, inl, inr, Bool, true, false, ◌&&◌, ◌==◌, length, refl, subst, ap, sym, ◌∙◌, arith, Option, Some, None}
 use Rattle.std.specs.List.{range_with_len, list_all}
-use Rattle.std.proofs.lemmas.Bool.{cases_Bool, cases_lt, both_ways, ne_eqb, and_from}
+use Rattle.std.proofs.lemmas.Bool.{cases_Bool, cases_lt, both_ways, ne_eqb, and_from, le-ltb}
 use Rattle.code_laws.specs.Code.{Code, start_of, end_of, component_of, component_count as components_of_code}
 use Rattle.code_laws.specs.Numbers.{ring_of, enclosing_pair, shell_or_outer, is_outer}
 use Rattle.code_laws.specs.SeqFault.{is_sound}
-use Rattle.code_laws.proofs.Sound.{sound_parts, last_start, start_within}
+use Rattle.code_laws.proofs.Sound.{sound_parts, last_start, start_within, is_component}
 use Rattle.turan_code.proofs.Views.{stands}
-use Rattle.topo_base.specs.SignedEdge.{comes_before}
+use Rattle.topo_base.specs.SignedEdge.{comes_before, edge_of, is_forward}
 use Rattle.file_laws.specs.Contents.{Contents}
 use Rattle.file_laws.specs.MapOfFile.{signed_at}
 use Rattle.file_laws.specs.Faults.{is_smallest, start_fault}
@@ -23,6 +23,30 @@ all_from test low (suc n) h = and_from (test low) (list_all test (range_with_len
 -- position p's signed edge is a smaller one of the component's outer ring
 abbrev pub is_smaller : Contents → ℕ → ℕ → Bool
 is_smaller c j p = is_outer j (ring_of c.code p) && comes_before (signed_at c p) (signed_at c (start_of c.code j))
+
+-- no signed edge is before itself
+not_both : (b f : Bool) → (b && f && not f) ≡ false
+not_both true true = refl
+not_both true false = refl
+not_both false f = refl
+
+none_and : (b x : Bool) → x ≡ false → (b && x) ≡ false
+none_and true x h = h
+none_and false x h = refl
+
+not_before : (d : ℤ) → comes_before d d ≡ false
+not_before d = rw (le-ltb (edge_of d) (edge_of d) (omega arith)) (not_both (edge_of d == edge_of d) (is_forward d))
+
+pub start-not-smaller : (c : Contents) (j p : ℕ) → p ≡ start_of c.code j → is_smaller c j p ≡ false
+start-not-smaller c j p e = subst (λ x. is_smaller c j x ≡ false) (sym e) (none_and (is_outer j (ring_of c.code (start_of c.code j))) _ (not_before (signed_at c (start_of c.code j))))
+
+pub component-is : (c : Code) → is_sound c ≡ true → (j p : ℕ) → j < components_of_code c → start_of c j ≤ p → p < end_of c j → component_of c p ≡ j
+component-is c h j p l from to = is_component c (sound_parts c h) p j l from to
+
+-- as it is read: in the outer ring of the position's own component, and before this signed edge
+pub smaller-as : (c : Contents) (j p : ℕ) (than : ℤ) (found : Bool) → component_of c.code p ≡ j → than ≡ signed_at c (start_of c.code j)
+    → found ≡ (is_outer (component_of c.code p) (ring_of c.code p) && comes_before (signed_at c p) than) → found ≡ is_smaller c j p
+smaller-as c j p than found e f h = h ∙ ap (λ i. is_outer i (ring_of c.code p) && comes_before (signed_at c p) than) e ∙ ap (λ d. is_outer j (ring_of c.code p) && comes_before (signed_at c p) d) f
 
 pub not-smallest : (c : Contents) (j p : ℕ) → p < length c.code.a → is_smaller c j p ≡ true → is_smallest c j ≡ false
 not-smallest c j p l h =

@@ -14,4 +14,4 @@ all_names_cost c = names_cost (node_count c) + names_cost c.edges + names_cost (
 -- for places, their order and the starts of components
 abbrev pub placed_cost : HeaderCounts → ℕ
 placed_cost c =
-    2 * c.edges * (13 * digits (2 * c.edges + 2) + 157) + c.components * (57 * digits (2 * c.edges + 2) + 433) + c.isolated * (6 * digits (node_count c + 2) + 44)
+    2 * c.edges * (7 * digits (2 * c.edges + 2) + 84) + c.components * (38 * digits (2 * c.edges + 2) + 296) + c.isolated * (6 * digits (node_count c + 2) + 44)

@@ -7,6 +7,7 @@ pub mod Section
 pub mod Checked
 pub mod Kinds
 pub mod Costs
+pub mod Gap
 pub mod Parens
 pub mod PlacedFits
 pub mod PlacedView

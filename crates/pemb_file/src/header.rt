@@ -1,10 +1,11 @@
 //! The header of a file: its magic word, its form, its length, its digest and its counts.
 
-ghost use Rattle.std.specs.Prelude.{◌≡◌, ◌≤◌, ◌+◌, ◌%◌, ◌==◌, ◌&&◌, ◌||◌, nat_le, nat_lt, length, slice_index, IfOk, OnOk};
+ghost use Rattle.std.specs.Prelude.{◌≡◌, ◌≤◌, ◌+◌, ◌%◌, ◌==◌, ◌&&◌, ◌||◌, nat_le, nat_lt, length, slice_index, IfOk, IsTrue, OnOk};
 ghost use Rattle.bit_words.specs.WordView.{words_of as view_words};
 ghost use Rattle.sha2.specs.Sha256.{sha256};
 ghost use Rattle.plane_model.specs.Sets.{or_else};
 ghost use Rattle.file_laws.specs.Layout.{words_of, counts_in, node_count, face_count, file_words, header_words};
+ghost use Rattle.file_laws.specs.Lawful.{is_lawful};
 ghost use Rattle.pemb_file.specs.Form.{number_of};
 ghost use Rattle.pemb_file.specs.Header.{counts_of_header};
 ghost use Rattle.file_laws.specs.Faults.{unless, magic, most, front_fault, digest_fault, count_fault};
@@ -195,6 +196,32 @@ fn check_counts(header: Header) -> Result<(), FileFault>
     check_count(header.region_back <= header.regions, 14, header.region_back)
 }
 
+/// The words and the header of a file of the right length, whose digest and counts may be wrong.
+#[derive(Clone, Copy)]
+struct Front<'a> {
+    words: WordView<'a>,
+    header: Header,
+    ghost counts: { counts_of_header header ≡ counts_in (view_words words) },
+    ghost size: { length (view_words words) ≡ file_words (counts_in (view_words words)) },
+    ghost long: { 15 ≤ length (view_words words) },
+}
+
+/// The words and the header of a file, or the first fault that is told before its digest is looked at.
+fn open_front<'a, C: Ledger>(bytes: &'a [u8], steps: &mut Steps<C>) -> Result<Front<'a>, FileFault>
+    ensures fault { Finds (front_fault bytes.now) result }
+    ensures words { IfOk result (λ front. view_words front.words ≡ words_of bytes.now) }
+    ensures grows { steps.old ≤ steps.new }
+    ensures cost { steps.new ≤ steps.old + 11 }
+{
+    let words = whole_words(bytes)?;
+    check_head(&words, steps)?;
+    let form = form(&words, steps)?;
+    check_header(&words)?;
+    let header = header(&words, form, steps);
+    check_length(&words, header)?;
+    Ok(Front { words, header })
+}
+
 /// The words of a file whose header has no fault, or its first fault.
 pub(crate) fn open_header<'a, C: Ledger>(
     bytes: &'a [u8],
@@ -206,13 +233,27 @@ pub(crate) fn open_header<'a, C: Ledger>(
     ensures grows { steps.old ≤ steps.new }
     ensures cost { steps.new ≤ steps.old + 11 }
 {
-    let words = whole_words(bytes)?;
-    check_head(&words, steps)?;
-    let form = form(&words, steps)?;
-    check_header(&words)?;
-    let header = header(&words, form, steps);
-    check_length(&words, header)?;
+    let front = open_front(bytes, steps)?;
     check_digest(bytes)?;
-    check_counts(header)?;
-    Ok(Image { words, header })
+    check_counts(front.header)?;
+    Ok(Image {
+        words: front.words,
+        header: front.header,
+    })
+}
+
+/// The words of a file that is known to be lawful: its digest is not computed.
+pub(crate) fn lawful_image<'a, C: Ledger>(bytes: &'a [u8], steps: &mut Steps<C>) -> Image<'a>
+    requires lawful { IsTrue (is_lawful bytes.now) }
+    ensures words { view_words result.words ≡ words_of bytes.now }
+    ensures grows { steps.old ≤ steps.new }
+    ensures cost { steps.new ≤ steps.old + 11 }
+{
+    match open_front(bytes, steps) {
+        Ok(front) => Image {
+            words: front.words,
+            header: front.header,
+        },
+        Err(_) => unreachable!(),
+    }
 }

@@ -18,7 +18,7 @@ mod writing;
 pub use counts::Counts;
 pub use file_laws::FileFault;
 pub use open_file::OpenFile;
-pub use opening::open;
+pub use opening::{open, open_lawful};
 pub use parts::ImageParts;
 pub use served::Served;
 pub use writing::{write_image, write_old_image};

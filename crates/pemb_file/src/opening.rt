@@ -15,11 +15,11 @@ ghost use Rattle.pemb_file.specs.Kinds.{is_named};
 ghost use Rattle.pemb_file.specs.Parens.{HasParens};
 ghost use Rattle.file_laws.specs.Faults.{front_fault, digest_fault, count_fault, directories_fault, names_fault, all_names_fault, places_fault, start_fault, regions_fault};
 ghost use Rattle.plane_model.specs.Sets.{or_else};
-ghost use Rattle.file_laws.specs.Lawful.{first_fault, content_fault, is_whole, file_size};
+ghost use Rattle.file_laws.specs.Lawful.{first_fault, content_fault, is_lawful, is_whole, file_size};
 ghost use Rattle.pemb_file.specs.OpenFile.{contents_of_file};
 ghost use Rattle.pemb_file.specs.Checked.{Finds};
 
-use crate::header::open_header;
+use crate::header::{lawful_image, open_header};
 use crate::image::Image;
 use crate::open_file::OpenFile;
 use crate::places::Placed;
@@ -152,4 +152,15 @@ pub fn open<'a, C: Ledger>(bytes: &'a [u8], steps: &mut Steps<C>) -> Result<Open
 {
     let image = open_header(bytes, steps)?;
     content(&image, steps)
+}
+
+/// The views of a file that is known to be lawful, as one that was just written is: nothing of it is checked again.
+pub fn open_lawful<'a, C: Ledger>(bytes: &'a [u8], steps: &mut Steps<C>) -> OpenFile<'a>
+    requires lawful { IsTrue (is_lawful bytes.now) }
+    ensures contents { contents_of_file result ≡ contents_of (words_of bytes.now) }
+    ensures cost { steps.new ≤ steps.old + 11 }
+    ensures grows { steps.old ≤ steps.new }
+{
+    let image = lawful_image(bytes, steps);
+    open_file(&image, code_view(&image))
 }

@@ -11,12 +11,47 @@ ghost use Rattle.file_laws.specs.Contents.{contents_with};
 ghost use Rattle.pemb_file.specs.PlacedFits.{PlacedFits};
 
 use bit_words::{BitView, PackedView, Steps};
-use code_laws::RingNumber;
 use file_laws::FileFault;
 use id_names::NamesView;
 use std::sync::ledger::Ledger;
 use topo_base::SignedNumber;
 use turan_code::TuranView;
+
+/// The gap before a position, among the edges that are none of the trees.
+#[derive(Clone, Copy)]
+struct Gap {
+    /// How many of their places stand before it.
+    place: usize,
+    /// How many of their pairs stand round it: none exactly where the position is in an outer ring.
+    depth: usize,
+}
+
+impl Gap {
+    ghost use Rattle.std.specs.Prelude.{◌≡◌, ◌<◌, ◌≤◌, ◌+◌, length};
+    ghost use Rattle.turan_code.specs.TuranView.{code_of_view};
+    ghost use Rattle.pemb_file.specs.Gap.{IsGap};
+
+    /// Passes position `p`.
+    fn pass<C: Ledger>(&mut self, code: &TuranView<'_>, p: usize, steps: &mut Steps<C>)
+        requires within { p < length (code_of_view code.now).a }
+        requires gap { IsGap (code_of_view code.now) p self.old }
+        ensures gap { IsGap (code_of_view code.now) (p + 1) self.new }
+        ensures some_steps { steps.old + 1 ≤ steps.new }
+        ensures cost { steps.new ≤ steps.old + 2 }
+    {
+        let parts = code.parts();
+        if parts.a.bits().bit(p, steps) {
+            return;
+        }
+        let opens = parts.dual.is_open(self.place, steps);
+        self.place += 1;
+        if opens {
+            self.depth += 1;
+        } else {
+            self.depth -= 1;
+        }
+    }
+}
 
 /// A sound code with the ids of its edges, and the places of components and isolated nodes.
 #[derive(Clone, Copy)]
@@ -34,14 +69,15 @@ pub(crate) struct Placed<'a> {
 }
 
 impl<'a> Placed<'a> {
-    ghost use Rattle.std.specs.Prelude.{ℕ, ◌≡◌, ◌<◌, ◌≤◌, ◌+◌, ◌-◌, ◌*◌, ◌&&◌, length, slice_index};
+    ghost use Rattle.std.specs.Prelude.{ℕ, ◌≡◌, ◌<◌, ◌≤◌, ◌+◌, ◌-◌, ◌*◌, ◌&&◌, length, slice_index, IsTrue};
     ghost use Rattle.bit_words.specs.Digits.{digits};
-    ghost use Rattle.code_laws.specs.Code.{start_of, end_of, component_count as components_of_code};
+    ghost use Rattle.code_laws.specs.Code.{start_of, end_of, component_of, component_count as components_of_code};
     ghost use Rattle.code_laws.specs.Numbers.{ring_of, is_outer};
     ghost use Rattle.topo_base.specs.SignedEdge.{comes_before};
     ghost use Rattle.file_laws.specs.MapOfFile.{signed_at};
     ghost use Rattle.file_laws.specs.Faults.{is_place, begins_before, place_fault, precedes, is_ordered, order_fault, isolated_id, is_isolated, isolated_fault, places_fault, is_smallest, start_fault};
     ghost use Rattle.pemb_file.specs.Checked.{Finds};
+    ghost use Rattle.pemb_file.specs.Gap.{IsGap};
     ghost use Rattle.pemb_file.specs.PlacedView.{contents_of_placed};
 
     /// The signed edge at position `p`.
@@ -49,12 +85,13 @@ impl<'a> Placed<'a> {
         requires { p < length (contents_of_placed self.now).code.a }
         ensures value { result ≡ signed_at (contents_of_placed self.now) p }
         ensures grows { steps.old ≤ steps.new }
-        ensures cost { steps.new ≤ steps.old + 7 * digits (length (contents_of_placed self.now).code.a + 2) + 93 }
+        ensures cost { steps.new ≤ steps.old + 7 * digits (length (contents_of_placed self.now).code.a + 2) + 82 }
     {
-        let edge = self.code.edge_of(p, steps) as usize;
+        let (edge, is_first) = self.code.edge_and_side(p, steps);
+        let edge = edge as usize;
         let _count = self.edges.count();
         let id = self.edges.id_of(edge, steps) as SignedNumber;
-        if self.code.is_first(p, steps) == self.forward.bit(edge, steps) {
+        if is_first == self.forward.bit(edge, steps) {
             id
         } else {
             -id
@@ -66,7 +103,7 @@ impl<'a> Placed<'a> {
         requires { component < components_of_code (contents_of_placed self.now).code }
         ensures start { result ≡ start_of (contents_of_placed self.now).code component }
         ensures grows { steps.old ≤ steps.new }
-        ensures cost { steps.new ≤ steps.old + 6 * digits (length (contents_of_placed self.now).code.a + 2) + 24 }
+        ensures cost { steps.new ≤ steps.old + 2 }
     {
         match self.code.start_of(component as u32, steps) {
             Some(start) => start,
@@ -236,26 +273,24 @@ impl<'a> Placed<'a> {
         place(19, self.wrong_isolated(steps))
     }
 
-    /// Whether position `p` is in the outer ring of a component and its signed edge is before this one.
+    /// Whether position `p`, which this gap stands before, is in its component's outer ring and its signed edge is
+    /// before this one.
     fn is_smaller<C: Ledger>(
         &self,
-        component: usize,
         than: SignedNumber,
         p: usize,
+        gap: Gap,
         steps: &mut Steps<C>,
     ) -> bool
-        requires { p < length (contents_of_placed self.now).code.a }
-        ensures smaller { result ≡ (is_outer component (ring_of (contents_of_placed self.now).code p)
+        requires within { p < length (contents_of_placed self.now).code.a }
+        requires gap { IsGap (contents_of_placed self.now).code p gap }
+        ensures smaller { result ≡ (is_outer (component_of (contents_of_placed self.now).code p)
+            (ring_of (contents_of_placed self.now).code p)
             && comes_before (signed_at (contents_of_placed self.now) p) than) }
         ensures grows { steps.old ≤ steps.new }
-        ensures cost { steps.new ≤ steps.old + 13 * digits (length (contents_of_placed self.now).code.a + 2) + 157 }
+        ensures cost { steps.new ≤ steps.old + 7 * digits (length (contents_of_placed self.now).code.a + 2) + 82 }
     {
-        match self.code.ring_of(p, steps) {
-            RingNumber::Outer(of) => {
-                of as usize == component && comes_before(self.signed_at(p, steps), than)
-            }
-            RingNumber::Shell(_) => false,
-        }
+        gap.depth == 0 && comes_before(self.signed_at(p, steps), than)
     }
 
     /// Where a component's positions end.
@@ -263,7 +298,7 @@ impl<'a> Placed<'a> {
         requires { component < components_of_code (contents_of_placed self.now).code }
         ensures end { result ≡ end_of (contents_of_placed self.now).code component }
         ensures grows { steps.old ≤ steps.new }
-        ensures cost { steps.new ≤ steps.old + 6 * digits (length (contents_of_placed self.now).code.a + 2) + 24 }
+        ensures cost { steps.new ≤ steps.old + 2 }
     {
         if component + 1 == self.places.count() {
             2 * self.edges.count()
@@ -272,38 +307,45 @@ impl<'a> Placed<'a> {
         }
     }
 
-    /// Whether the signed edge at a component's start is the smallest of its outer ring.
-    fn is_smallest<C: Ledger>(&self, component: usize, steps: &mut Steps<C>) -> bool
-        requires { component < components_of_code (contents_of_placed self.now).code }
+    /// Whether the signed edge at a component's start is the smallest of its outer ring, with the gap before the start.
+    /// Where it is, the gap is then the one at the component's end, where the next one starts.
+    fn is_smallest<C: Ledger>(&self, component: usize, gap: &mut Gap, steps: &mut Steps<C>) -> bool
+        requires within { component < components_of_code (contents_of_placed self.now).code }
+        requires gap { IsGap (contents_of_placed self.now).code
+            (start_of (contents_of_placed self.now).code component) gap.old }
         ensures smallest { result ≡ is_smallest (contents_of_placed self.now) component }
+        ensures gap { IsTrue result → IsGap (contents_of_placed self.now).code
+            (end_of (contents_of_placed self.now).code component) gap.new }
         ensures grows { steps.old ≤ steps.new }
         ensures cost { steps.new ≤ steps.old + (end_of (contents_of_placed self.now).code component
             - start_of (contents_of_placed self.now).code component)
-            * (13 * digits (length (contents_of_placed self.now).code.a + 2) + 157)
-            + (19 * digits (length (contents_of_placed self.now).code.a + 2) + 141) }
+            * (7 * digits (length (contents_of_placed self.now).code.a + 2) + 84) + 4 }
     {
         let from = self.start(component, steps);
         let to = self.end(component, steps);
         let start = self.signed_at(from, steps);
-        for p in from..to {
-            if self.is_smaller(component, start, p, steps) {
+        gap.pass(&self.code, from, steps);
+        for p in from + 1..to {
+            if self.is_smaller(start, p, *gap, steps) {
                 return false;
             }
+            gap.pass(&self.code, p, steps);
         }
         true
     }
 
-    /// Whether the signed edge at each component's start is the smallest of its outer ring.
+    /// Whether the signed edge at each component's start is the smallest of its outer ring, by one pass over all
+    /// positions.
     pub(crate) fn check_starts<C: Ledger>(&self, steps: &mut Steps<C>) -> Result<(), FileFault>
         ensures fault { Finds (start_fault (contents_of_placed self.now)) result }
         ensures grows { steps.old ≤ steps.new }
         ensures cost { steps.new ≤ steps.old + length (contents_of_placed self.now).code.a
-            * (13 * digits (length (contents_of_placed self.now).code.a + 2) + 157)
-            + length (contents_of_placed self.now).places
-            * (19 * digits (length (contents_of_placed self.now).code.a + 2) + 141) }
+            * (7 * digits (length (contents_of_placed self.now).code.a + 2) + 84)
+            + length (contents_of_placed self.now).places * 4 }
     {
+        let mut gap = Gap { place: 0, depth: 0 };
         for component in 0..self.places.count() {
-            if !self.is_smallest(component, steps) {
+            if !self.is_smallest(component, &mut gap, steps) {
                 return Err(FileFault::Start {
                     component: component as u64,
                 });

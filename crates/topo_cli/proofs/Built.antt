@@ -21,7 +21,7 @@ use Rattle.topo_cli.specs.Tables.{Ending, IsNeeded, IsSubject, OnRead}
 use Rattle.topo_cli.specs.Text.{built_line, dumped_line, status_line, upgraded_line}
 use Rattle.topo_cli.specs.Ended.{IsTold}
 use Rattle.topo_cli.specs.Loading.{NamesFile, NamesNeeded, NamesNothing}
-use Rattle.topo_cli.specs.Outcome.{Finished, FinishedPart, HoldsFolder, HoldsFolderPart, HoldsImage, HoldsPart, HoldsPartOfSuch, HoldsSuch, HoldsUpgrade, HoldsUpgradePart, IsImageOf, IsPromised, IsUnread, IsUpgrade, KeepsFiles, LeavesFiles, LeavesPart, LeavesWhole, OpensFile, ReadsShelf, WritesFile, Wrote, WrotePart, WrotePartOf, folder_of, words_to_open}
+use Rattle.topo_cli.specs.Outcome.{Finished, FinishedPart, HoldsFolder, HoldsFolderPart, HoldsImage, HoldsPart, HoldsPartOfSuch, HoldsSuch, HoldsUpgrade, HoldsUpgradePart, IsImageOf, IsPromised, IsUnread, IsUpgrade, KeepsFiles, LeavesFiles, LeavesPart, LeavesWhole, OpensFile, ReadsShelf, WritesFile, Wrote, WrotePart, WrotePartOf, folder_of, words_of_built, words_to_open}
 use Rattle.topo_cli.proofs.Complete.{promised}
 use Rattle.topo_cli.proofs.Served.{has_tables}
 use Rattle.topo_cli.proofs.Statuses.{Fits, at_form, has_form, leaves, no_form, on_same, on_subject, script_unread, some_form, told_weaker, wrote_nothing}
@@ -106,7 +106,7 @@ left_fault : (c : Call) (k : Form) (t : Rows) (Part : Rows → Files → Files �
 left_fault c k t Part are held = on_same c.shelf.files_before k (Ok t) (LeavesPart c Part) are held
 
 -- the image was written, and the line was, or was not
-pub built : (c : Call) (dir file : List ℕ) (t : Rows) (image : List ℕ) (s : Status) → Telling c (Form.Build dir file) t → IsImageOf t image → c.steps_after ≤ c.steps_before + words_to_open (map_of t)
+pub built : (c : Call) (dir file : List ℕ) (t : Rows) (image : List ℕ) (s : Status) → Telling c (Form.Build dir file) t → IsImageOf t image → c.steps_after ≤ c.steps_before + words_of_built
     → WhereTold (Holds file image) c.shelf.files_before c.shelf.files_after → IsTold (built_line (map_of t)) status.Done s c.out → IsPromised c s
 built c dir file t image s a is most held tells =
     told c (Form.Build dir file) t (built_line (map_of t)) s a (λ wrote. record { wrote = wrote; most = most }) (λ part. part)

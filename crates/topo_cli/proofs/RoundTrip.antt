@@ -33,8 +33,8 @@ all_taken script taken before after is consumed whole =
     sym (told ∙ append-nil taken)
 
 -- what was answered of a whole script
-answered : (c : Call) (m : PlaneMap) (script : List ℕ) → c.script.left_before ≡ Some script → TookOfScript c (IsAnswered c m) → Wrote c (answers m script)
-answered c m script told took =
+answered : (c : Call) (m : PlaneMap) (opening : ℕ) (script : List ℕ) → c.script.left_before ≡ Some script → TookOfScript c (IsAnswered c m opening) → Wrote c (answers m script)
+answered c m opening script told took =
     let P : List ℕ → Type 0 = λ xs. Wrote c (answers m xs) in
     subst P (all_taken script took.taken c.script.left_before c.script.left_after told took.consumed took.holds.whole) took.holds.wrote
 
@@ -103,6 +103,6 @@ same_text dir file script files b a q trip pb pa pq =
     let A : PlaneMap → Type 0 = λ m. Wrote a (answers m script) in
     let Q : PlaneMap → Type 0 = λ m. Wrote q (answers m script) in (
       answers (map_of t) script,
-      subst A map_asked (answered a (map_of ra.tables) script trip.script_asked ra.finished),
-      subst Q map_queried (answered q (map_of rq.tables) script trip.script_queried rq.finished),
+      subst A map_asked (answered a (map_of ra.tables) _ script trip.script_asked ra.finished),
+      subst Q map_queried (answered q (map_of rq.tables) _ script trip.script_queried rq.finished),
     )

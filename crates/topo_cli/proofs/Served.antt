@@ -13,10 +13,22 @@ use Rattle.topo_cli.specs.Words.{Form}
 use Rattle.topo_cli.specs.Call.{Call}
 use Rattle.topo_cli.specs.Tables.{IsSubject}
 use Rattle.topo_cli.specs.Serving.{IsServedAs, serve_call, status_of}
-use Rattle.topo_cli.specs.Outcome.{Finished, FinishedPart, HasTables, IsAnswered, IsPromised, IsScriptTaken, IsUnreadUnlessServed, KeepsFiles, LeavesFiles, ReadsScript, ScriptWaits, TookAtMost, TookOfScript, WrotePartOf, most_taken, words_to_open}
+use Rattle.topo_cli.specs.Outcome.{Finished, FinishedPart, HasTables, IsAnswered, IsPromised, IsScriptTaken, IsUnreadUnlessServed, KeepsFiles, LeavesFiles, ReadsScript, ScriptWaits, TookAtMost, TookOfScript, WrotePartOf, most_taken, words_of_built, words_to_open}
 use Rattle.topo_cli.proofs.Complete.{promised}
 use Rattle.topo_cli.proofs.Statuses.{at_form, has_form, no_form, on_same, on_subject, some_form, wanting}
 use Rattle.topo_cli.proofs.Taken.{took_at_most}
+
+-- how many words may be read before the first line is
+abbrev words_before : Form → PlaneMap → ℕ
+words_before (Form.Ask dir) m = words_of_built
+words_before (Form.Build dir file) m = words_of_built
+words_before (Form.Query file) m = words_to_open m
+words_before (Form.Check file) m = words_to_open m
+words_before (Form.Trial n) m = words_of_built
+words_before (Form.Hops file from to) m = words_to_open m
+words_before (Form.Border file region) m = words_to_open m
+words_before (Form.Upgrade old new) m = words_to_open m
+words_before (Form.Dump file dir) m = words_to_open m
 
 -- the tables of a form are served, from a file that was opened by so many reads
 pub record Serving (c : Call) (k : Form) (t : Rows) (opened : ℕ) : Type 0 where
@@ -26,7 +38,7 @@ pub record Serving (c : Call) (k : Form) (t : Rows) (opened : ℕ) : Type 0 wher
   pub consistent : IsTrue (is_consistent t)
   pub kept : KeepsFiles c
   pub grows : c.steps_before ≤ opened
-  pub most : opened ≤ c.steps_before + words_to_open (map_of t)
+  pub most : opened ≤ c.steps_before + words_before k (map_of t)
 
 pub has_tables : (c : Call) (k : Form) (t : Rows) (P : Rows → Type 0) → c.form ≡ Some k → IsSubject c.shelf.files_before k t → IsTrue (is_consistent t) → P t → HasTables c P
 has_tables c k t P form are consistent h =
@@ -68,7 +80,7 @@ script_taken c k t s reads form are few =
     waits (Form.Dump file dir) reads are = absurd reads
 
 -- what such a form finishes with, and what of it was written
-finishes : (c : Call) (t : Rows) (k : Form) → ReadsScript k → TookOfScript c (IsAnswered c (map_of t)) → Finished c t k
+finishes : (c : Call) (t : Rows) (k : Form) → ReadsScript k → TookOfScript c (IsAnswered c (map_of t) (words_before k (map_of t))) → Finished c t k
 finishes c t (Form.Ask dir) reads h = h
 finishes c t (Form.Build dir file) reads h = absurd reads
 finishes c t (Form.Query file) reads h = h

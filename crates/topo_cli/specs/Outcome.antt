@@ -258,29 +258,33 @@ LeavesFiles c s (Some (Form.Border file region)) = KeepsFiles c
 LeavesFiles c s (Some (Form.Upgrade old new)) = LeavesWritten c (Form.Upgrade old new) (HoldsUpgrade old new) (HoldsUpgradePart old new) s
 LeavesFiles c s (Some (Form.Dump file dir)) = LeavesWritten c (Form.Dump file dir) (HoldsFolder dir) (HoldsFolderPart dir) s
 
--- how many words may be read to open the file of a map
+-- how many words may be read to open and check the file of a map
 abbrev pub words_to_open : PlaneMap → ℕ
 words_to_open m = 1024 * digits (size m) * (size m + 2)
 
--- all of the script was taken, and answered from a map; words were read for each item but those of `counts`, and as
--- many as the lines allow
-pub record IsAnswered (c : Call) (m : PlaneMap) (script : List ℕ) : Type 0 where
+-- how many words may be read to open an image that was just built: some of its header, whatever the map
+abbrev pub words_of_built : ℕ
+words_of_built = 11
+
+-- all of the script was taken, and answered from a map that was opened by so many words; words were read for each item
+-- but those of `counts`, and as many as the lines allow
+pub record IsAnswered (c : Call) (m : PlaneMap) (opening : ℕ) (script : List ℕ) : Type 0 where
   pub whole : IsReadToEnd c.script.left_before c.script.left_after
   pub short : length script ≤ most_bytes
   pub wrote : Wrote c (answers m script)
   pub least : c.steps_before + over_lines (found_by_reads m) (lines script) ≤ c.steps_after
-  pub most : c.steps_after ≤ c.steps_before + words_to_open m + over_lines (words_of_line m) (lines script)
+  pub most : c.steps_after ≤ c.steps_before + opening + over_lines (words_of_line m) (lines script)
 
--- a line of the map of a file that was opened was written
-pub record IsReported (c : Call) (m : PlaneMap) (line : List ℕ) : Type 0 where
+-- a line of a map that was opened by so many words was written
+pub record IsReported (c : Call) (opening : ℕ) (line : List ℕ) : Type 0 where
   pub wrote : Wrote c line
-  pub most : c.steps_after ≤ c.steps_before + words_to_open m
+  pub most : c.steps_after ≤ c.steps_before + opening
 
 -- the map of a grid was walked
 pub record IsWalked (c : Call) (m : PlaneMap) (n : ℕ) : Type 0 where
   pub wrote : Wrote c (trial_text n m)
   pub least : c.steps_before + (face_total m + node_total m + adjacent_total m) ≤ c.steps_after
-  pub most : c.steps_after ≤ c.steps_before + words_to_open m + most_total_words m
+  pub most : c.steps_after ≤ c.steps_before + words_of_built + most_total_words m
 
 -- the line of a shortest walk was written; words were read for each of its moves
 pub record IsHopped (c : Call) (m : PlaneMap) (from to : ℕ) : Type 0 where
@@ -302,10 +306,10 @@ pub record IsDumped (c : Call) (m : PlaneMap) : Type 0 where
 
 -- what is done for tables that are consistent, or that a lawful file stands for
 abbrev pub Finished : Call → Rows → Form → Type 0
-Finished c t (Form.Ask dir) = TookOfScript c (IsAnswered c (map_of t))
-Finished c t (Form.Build dir file) = IsReported c (map_of t) (built_line (map_of t))
-Finished c t (Form.Query file) = TookOfScript c (IsAnswered c (map_of t))
-Finished c t (Form.Check file) = IsReported c (map_of t) (lawful_line (map_of t))
+Finished c t (Form.Ask dir) = TookOfScript c (IsAnswered c (map_of t) words_of_built)
+Finished c t (Form.Build dir file) = IsReported c words_of_built (built_line (map_of t))
+Finished c t (Form.Query file) = TookOfScript c (IsAnswered c (map_of t) (words_to_open (map_of t)))
+Finished c t (Form.Check file) = IsReported c (words_to_open (map_of t)) (lawful_line (map_of t))
 Finished c t (Form.Trial n) = IsWalked c (map_of t) n
 Finished c t (Form.Hops file from to) = IsHopped c (map_of t) from to
 Finished c t (Form.Border file region) = IsOutlined c (map_of t) region

@@ -6,24 +6,21 @@ ghost use Rattle.file_laws.specs.Lawful.{is_lawful, map_of_file};
 ghost use Rattle.pemb_file.specs.OpenFile.{contents_of_file};
 ghost use Rattle.pemb_file.specs.Served.{contents_of_view};
 ghost use Rattle.navigate.specs.Bound.{map_with};
-ghost use Rattle.topo_cli.specs.Outcome.{words_to_open};
+ghost use Rattle.topo_cli.specs.Outcome.{words_of_built};
 
 use bit_words::Steps;
-use pemb_file::{OpenFile, Served, open};
+use pemb_file::{OpenFile, Served, open_lawful};
 use std::alloc::{AllocError, Global};
 use std::sync::ledger::Ledger;
 
-/// An image that is lawful, opened.
+/// An image that was built, opened: it is lawful, and not checked again.
 pub fn open_image<'a, L: Ledger>(image: &'a [u8], steps: &mut Steps<L>) -> OpenFile<'a>
     requires lawful { IsTrue (is_lawful image.now) }
     ensures map { map_with (contents_of_file result) ≡ map_of (map_of_file image.now) }
-    ensures most { steps.new ≤ steps.old + words_to_open (map_of (map_of_file image.now)) }
+    ensures few { steps.new ≤ steps.old + words_of_built }
     ensures grows { steps.old ≤ steps.new }
 {
-    match open(image, steps) {
-        Ok(opened) => opened,
-        Err(_) => unreachable!(),
-    }
+    open_lawful(image, steps)
 }
 
 /// Words with a bit for each face of a file, face 0 among them.

@@ -1,12 +1,15 @@
 //! Worked files, written in both forms, word by word.
 
-ghost use Rattle.std.specs.Prelude.{◌≡◌, length, IfOk, IsTrue};
+ghost use Rattle.std.specs.Prelude.{◌≡◌, ◌<◌, length, IfOk, IsTrue};
 ghost use Rattle.pemb_file.specs.Parts.{contents_of_parts};
-ghost use Rattle.file_laws.specs.Lawful.{is_whole, has_room_for};
+ghost use Rattle.file_laws.specs.Lawful.{is_lawful, is_whole, has_room_for};
 
-use crate::{ImageParts, write_image, write_old_image};
+use crate::{ImageParts, Served, open_lawful, write_image, write_old_image};
+use bit_words::Steps;
 use image_words::{bytes_of, old_island, old_triangle};
 use std::alloc::Global;
+use std::marker::Brand;
+use std::sync::ledger::{Blank, Ledger};
 use std::test::Fail;
 
 /// Whether these are the bytes of these words, the lowest byte of each first.
@@ -62,6 +65,18 @@ fn island(alloc: Global) -> Result<ImageParts, Fail>
     })
 }
 
+/// How many edges a file has that is opened with no check.
+fn edges_of_lawful<C: Ledger>(alloc: Global, image: &[u8], blank: Blank) -> u32
+    requires lawful { IsTrue (is_lawful image.now) }
+    requires name { blank.name ≡ C.name }
+    requires parts { blank.parts ≡ C.parts }
+    requires some { 0 < blank.parts }
+{
+    let mut steps = Steps::<C>::new(alloc, blank);
+    let file = open_lawful(image, &mut steps);
+    Served::of(&file).counts().edges
+}
+
 #[test]
 fn a_triangle_is_written_in_form_1(rt: HostRuntime) -> Result<(), Fail> {
     let alloc = rt.alloc();
@@ -77,6 +92,7 @@ fn a_triangle_is_written_in_form_2(rt: HostRuntime) -> Result<(), Fail> {
     let parts = triangle(alloc)?;
     let image = write_image(alloc, &parts)?;
     assert!(rt; is_image(alloc, &image, &image_words::triangle())?);
+    assert_eq!(rt; edges_of_lawful::<Brand>(alloc, &image, Blank::new(1)), 3);
     Ok(())
 }
 

@@ -2,7 +2,7 @@ use Rattle.std.proofs.Common.{arith, ◌∙◌, ap}
 use Rattle.file_laws.specs.MapOfFile.{signed_at}
 use Rattle.pemb_file.specs.Served.{contents_of_view}
 use Rattle.navigate.proofs.Facts.{words_line}
-use Rattle.navigate.proofs.MapLists.{next_at}
+use Rattle.navigate.proofs.MapLists.{next_of}
 use Rattle.navigate.proofs.OrbitLengths.{some_digits}
 use Rattle.navigate.proofs.look_ups.next.Goals as goal
 
@@ -15,7 +15,8 @@ returns-in_default-clause-paid g c =
 pub returns-clause-next : goal.returns-clause-next
 returns-clause-next g c =
     let m = contents_of_view c.args.served in
-    c.edge_at.ensures.edge ∙ ap (signed_at m) c.step_from-next.ensures.step ∙ next_at m c.args.served.whole c.in-Some.p c.args.edge c.in-Some.ensures.within c.in-Some.ensures.edge
+    c.edge_at.ensures.edge ∙ ap (signed_at m) c.step_from-next.ensures.step
+    ∙ next_of m c.args.served.whole c.in-Some.first c.in-Some.is_own c.args.edge c.in-Some.ensures.within c.in-Some.ensures.edge
 
 pub returns-clause-paid : goal.returns-clause-paid
 returns-clause-paid g c =

@@ -1,55 +1,27 @@
 use Rattle.std.proofs.lemmas.Result.{err_from_is_err_and}
-use Rattle.pemb_file.proofs.FrontFaults.{at-bytes, at-head, at-form, at-header, at-length, at-digest, at-counts, front-none, long-bytes}
+use Rattle.pemb_file.proofs.FrontFaults.{front-begun, at-digest, at-counts, long-bytes}
 use Rattle.pemb_file.proofs.header.open_header.Goals as goal
 
-pub returns-in_err-words-clause-fault : goal.returns-in_err-words-clause-fault
-returns-in_err-words-clause-fault g c =
+pub returns-in_err-front-clause-fault : goal.returns-in_err-front-clause-fault
+returns-in_err-front-clause-fault g c =
     let p = err_from_is_err_and c.from_residual.result c.from_residual.ensures.1 in
-    rw (p.1, p.2) (at-bytes c.args.bytes.now _ c.in_err-words.ensures.fault)
-
-pub returns-in_err-check_head-clause-fault : goal.returns-in_err-check_head-clause-fault
-returns-in_err-check_head-clause-fault g c =
-    let p = err_from_is_err_and c.from_residual-in_err-check_head.result c.from_residual-in_err-check_head.ensures.1 in
-    let w = c.in_ok-words.ensures in
-    rw (p.1, p.2) (at-head c.args.bytes.now _ _ w.words w.fault c.in_err-check_head.ensures.fault)
-
-pub returns-in_err-form-clause-fault : goal.returns-in_err-form-clause-fault
-returns-in_err-form-clause-fault g c =
-    let p = err_from_is_err_and c.from_residual-in_err-form.result c.from_residual-in_err-form.ensures.1 in
-    let w = c.in_ok-words.ensures in
-    rw (p.1, p.2) (at-form c.args.bytes.now _ _ w.words w.fault c.in_ok-check_head.ensures.fault c.in_err-form.ensures.fault)
-
-pub returns-in_err-check_header-clause-fault : goal.returns-in_err-check_header-clause-fault
-returns-in_err-check_header-clause-fault g c =
-    let p = err_from_is_err_and c.from_residual-in_err-check_header.result c.from_residual-in_err-check_header.ensures.1 in
-    let w = c.in_ok-words.ensures in
-    rw (p.1, p.2) (at-header c.args.bytes.now _ _ w.words w.fault c.in_ok-check_head.ensures.fault c.in_ok-form.ensures.fault c.in_err-check_header.ensures.fault)
-
-pub returns-in_err-check_length-clause-fault : goal.returns-in_err-check_length-clause-fault
-returns-in_err-check_length-clause-fault g c =
-    let p = err_from_is_err_and c.from_residual-in_err-check_length.result c.from_residual-in_err-check_length.ensures.1 in
-    let w = c.in_ok-words.ensures in
-    rw (p.1, p.2) (at-length c.args.bytes.now _ _ _ w.words c.header-header.ensures.counts w.fault c.in_ok-check_head.ensures.fault c.in_ok-form.ensures.fault c.in_ok-check_header.ensures.fault c.in_err-check_length.ensures)
+    rw (p.1, p.2) (front-begun c.args.bytes.now _ c.in_err-front.ensures.fault)
 
 pub check_digest-requires : goal.check_digest-requires
-check_digest-requires g c = long-bytes c.args.bytes.now _ c.in_ok-words.ensures.words c.in_ok-check_header.ensures.long
+check_digest-requires g c = long-bytes c.args.bytes.now _ c.in_ok-front.ensures.words c.in_ok-front.front.long
 
 pub returns-in_err-check_digest-clause-fault : goal.returns-in_err-check_digest-clause-fault
 returns-in_err-check_digest-clause-fault g c =
     let p = err_from_is_err_and c.from_residual-in_err-check_digest.result c.from_residual-in_err-check_digest.ensures.1 in
-    let w = c.in_ok-words.ensures in
-    let f = front-none c.args.bytes.now _ _ w.words c.header-header.ensures.counts w.fault c.in_ok-check_head.ensures.fault c.in_ok-form.ensures.fault c.in_ok-check_header.ensures.fault c.in_ok-check_length.ensures in
-    rw (p.1, p.2) (at-digest c.args.bytes.now _ f c.in_err-check_digest.ensures)
+    rw (p.1, p.2) (at-digest c.args.bytes.now _ c.in_ok-front.ensures.fault c.in_err-check_digest.ensures)
 
 pub returns-in_err-check_counts-clause-fault : goal.returns-in_err-check_counts-clause-fault
 returns-in_err-check_counts-clause-fault g c =
     let p = err_from_is_err_and c.from_residual-in_err-check_counts.result c.from_residual-in_err-check_counts.ensures.1 in
-    let w = c.in_ok-words.ensures in
-    let f = front-none c.args.bytes.now _ _ w.words c.header-header.ensures.counts w.fault c.in_ok-check_head.ensures.fault c.in_ok-form.ensures.fault c.in_ok-check_header.ensures.fault c.in_ok-check_length.ensures in
-    rw (p.1, p.2) (at-counts c.args.bytes.now _ _ _ w.words c.header-header.ensures.counts f c.in_ok-check_digest.ensures c.in_err-check_counts.ensures)
+    let f = c.in_ok-front.ensures in
+    rw (p.1, p.2) (at-counts c.args.bytes.now _ _ _ f.words c.in_ok-front.front.counts f.fault c.in_ok-check_digest.ensures c.in_err-check_counts.ensures)
 
 pub returns-clause-fault : goal.returns-clause-fault
 returns-clause-fault g c =
-    let w = c.in_ok-words.ensures in
-    let f = front-none c.args.bytes.now _ _ w.words c.header-header.ensures.counts w.fault c.in_ok-check_head.ensures.fault c.in_ok-form.ensures.fault c.in_ok-check_header.ensures.fault c.in_ok-check_length.ensures in
-    at-counts c.args.bytes.now _ _ _ w.words c.header-header.ensures.counts f c.in_ok-check_digest.ensures c.in_ok-check_counts.ensures
+    let f = c.in_ok-front.ensures in
+    at-counts c.args.bytes.now _ _ _ f.words c.in_ok-front.front.counts f.fault c.in_ok-check_digest.ensures c.in_ok-check_counts.ensures

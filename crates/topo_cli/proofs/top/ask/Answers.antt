@@ -3,7 +3,6 @@ use Rattle.plane_model.specs.PlaneMap.{PlaneMap, map_of}
 use Rattle.file_laws.specs.Lawful.{map_of_file}
 use Rattle.navigate.specs.Bound.{map_with}
 use Rattle.topo_cli.specs.Words.{Form}
-use Rattle.topo_cli.specs.Outcome.{words_to_open}
 use Rattle.topo_cli.proofs.Built.{fits_ask}
 use Rattle.topo_cli.proofs.Served.{served_as}
 use Rattle.topo_cli.proofs.Statuses.{not_loaded}
@@ -19,7 +18,6 @@ pub returns : goal.returns
 returns g c =
     let b = c.in-Ok.ensures.built in
     let same : map_of (map_of_file c.deref.result.now) ≡ map_of b.tables = ap (λ (x : List ℕ). map_of (map_of_file x)) c.deref.ensures.value ∙ b.is.stands.2 in
-    let P : PlaneMap → Type 0 = λ m. c.open_image-opened.new.steps ≤ c.args.steps.now + words_to_open m in
     served_as _ (Form.Ask c.args.dir.now) b.tables _ _ _ (ap map_with c.of-served.ensures ∙ c.open_image-opened.ensures.map ∙ same)
     (record {
       form = refl;
@@ -28,6 +26,6 @@ returns g c =
       consistent = b.consistent;
       kept = c.in-Ok.ensures.kept;
       grows = c.open_image-opened.ensures.grows;
-      most = subst P same c.open_image-opened.ensures.most;
+      most = c.open_image-opened.ensures.few;
     })
     c.serve_script.ensures

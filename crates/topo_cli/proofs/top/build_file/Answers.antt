@@ -5,7 +5,6 @@ use Rattle.file_laws.specs.Lawful.{map_of_file}
 use Rattle.topo_cli.specs.declared.status.Status.TheVariants as status
 use Rattle.topo_cli.specs.Call.{sink_call}
 use Rattle.topo_cli.specs.Ended.{IsTold}
-use Rattle.topo_cli.specs.Outcome.{words_to_open}
 use Rattle.topo_cli.specs.Text.{counts_line}
 use Rattle.navigate.specs.Bound.{map_with}
 use Rattle.topo_cli.specs.Words.{Form}
@@ -27,13 +26,12 @@ pub returns-in-Ok-write_file : goal.returns-in-Ok-write_file
 returns-in-Ok-write_file g c = λ script idle.
     let b = c.in-Ok.ensures.built in
     let same : map_of (map_of_file c.deref.result.now) ≡ map_of b.tables = ap (λ (x : List ℕ). map_of (map_of_file x)) c.deref.ensures.value ∙ b.is.stands.2 in
-    let P : PlaneMap → Type 0 = λ m. c.open_image-opened.new.steps ≤ c.args.steps.now + words_to_open m in
     let line = c.in-Ok-line_of_counts.ensures ∙ ap (counts_line (codes "built")) (ap map_with c.of-served.ensures ∙ c.open_image-opened.ensures.map ∙ same) in
     let Q : List ℕ → Type 0 = λ text. IsTold text status.Done c.tell.result (sink_call g.K.Sink.held g.K.Sink.faults c.args.out.now c.tell.new.out) in
     let held = written_since _ _ _ _ _ (Holds c.args.file.now) c.deref-2.ensures.value c.in-Ok.ensures.kept c.in-Ok-write_file.ensures.written in
     built _ c.args.dir.now c.args.file.now b.tables c.in-Ok.image.items _
     (record { form = refl; are = b.are; consistent = b.consistent; unread = idle; grows = c.open_image-opened.ensures.grows })
-    b.is (subst P same c.open_image-opened.ensures.most) held
+    b.is c.open_image-opened.ensures.few held
     (subst Q (c.deref-in-Ok-write_file.ensures.value ∙ line) c.tell.ensures)
 
 pub returns : goal.returns

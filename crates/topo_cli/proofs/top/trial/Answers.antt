@@ -6,7 +6,6 @@ use Rattle.map_totals.specs.Totals.{adjacent_total, face_total, most_total_words
 use Rattle.topo_cli.specs.declared.status.Status.TheVariants as status
 use Rattle.topo_cli.specs.Call.{sink_call}
 use Rattle.topo_cli.specs.Ended.{IsTold}
-use Rattle.topo_cli.specs.Outcome.{words_to_open}
 use Rattle.topo_cli.specs.Text.{trial_text}
 use Rattle.navigate.specs.Bound.{map_with}
 use Rattle.topo_cli.specs.Words.{Form}
@@ -20,12 +19,11 @@ returns-in-Ok-trial_lines g c = λ shelf script untouched idle.
     let t = grid_of c.args.size in
     let same : map_of (map_of_file c.deref.result.now) ≡ map_of t = ap (λ (x : List ℕ). map_of (map_of_file x)) c.deref.ensures.value ∙ b.is.stands.2 in
     let served = ap map_with c.of-served.ensures ∙ c.open_image-opened.ensures.map ∙ same in
-    let P : PlaneMap → Type 0 = λ m. c.open_image-opened.new.steps ≤ c.args.steps.now + words_to_open m in
     let L : PlaneMap → Type 0 = λ m. c.open_image-opened.new.steps + (face_total m + node_total m + adjacent_total m) ≤ c.trial_lines.new.steps in
     let M : PlaneMap → Type 0 = λ m. c.trial_lines.new.steps ≤ c.open_image-opened.new.steps + most_total_words m in
     let Q : List ℕ → Type 0 = λ text. IsTold text status.Done c.tell.result (sink_call g.K.Sink.held g.K.Sink.faults c.args.out.now c.tell.new.out) in
     let start = c.open_image-opened.ensures.grows in
-    let opened = subst P same c.open_image-opened.ensures.most in
+    let opened = c.open_image-opened.ensures.few in
     let walked = subst L served c.in-Ok-trial_lines.ensures.least in
     let most = subst M served c.in-Ok-trial_lines.ensures.most in
     let more = c.in-Ok-trial_lines.ensures.grows in

@@ -1,5 +1,4 @@
 use Rattle.std.proofs.Common.{arith}
-use Rattle.navigate.specs.KeptStops.{AreKept}
 use Rattle.navigate.proofs.kept_stops.KeptStops.none.Goals as goal
 
 pub returns : goal.returns

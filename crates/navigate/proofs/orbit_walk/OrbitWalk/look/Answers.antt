@@ -1,9 +1,6 @@
-use Rattle.std.proofs.Common.{refl, ◌≡◌, ◌<◌, arith, ap, ◌∙◌, length, subst}
+use Rattle.std.proofs.Common.{refl, arith}
 use Rattle.turan_code.specs.TuranView.{code_of_view}
-use Rattle.code_laws.specs.Code.{Code, is_first, step}
-use Rattle.code_laws.specs.Numbers.{edge_count, edge_of}
 use Rattle.pemb_file.specs.Served.{contents_of_view}
-use Rattle.navigate.specs.KeptStops.{IsStop}
 use Rattle.navigate.specs.OrbitWalk.{contents_in, positions_left}
 use Rattle.navigate.proofs.Facts.{digits_view}
 use Rattle.navigate.proofs.KeptLaws.{found_stop}

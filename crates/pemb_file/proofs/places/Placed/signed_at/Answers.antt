@@ -10,15 +10,15 @@ use Rattle.pemb_file.proofs.places.Placed.signed_at.Goals as goal
 pub returns-then-is_first-bit-clause-value : goal.returns-then-is_first-bit-clause-value
 returns-then-is_first-bit-clause-value g c =
     let k = contents_of_placed c.args.self.now in
-    let e : signed_at k c.args.p ≡ pos c.id_of-id.result = signed-as k c.args.p c.edge_of-edge.result c.id_of-id.result c.is_first.result c.bit.result c.edge_of-edge.ensures.edge c.id_of-id.ensures.id c.is_first.ensures.first c.bit.ensures.bit c.if-is_first-bit.true in
-    let few = (c.count-count.ensures.names.in_range c.edge_of-edge.result (omega (arith, c.args.self.now.fits.edges, c.edge_of-edge.ensures.within))).1 in
+    let e : signed_at k c.args.p ≡ pos c.id_of-id.result = signed-as k c.args.p c.edge_and_side-edge.result.0 c.id_of-id.result c.edge_and_side-edge.result.1 c.bit.result c.edge_and_side-edge.ensures.edge c.id_of-id.ensures.id c.edge_and_side-edge.ensures.first c.bit.ensures.bit c.if-is_first-bit.true in
+    let few = (c.count-count.ensures.names.in_range c.edge_and_side-edge.result.0 (omega (arith, c.args.self.now.fits.edges, c.edge_and_side-edge.ensures.within))).1 in
     omega (arith, ints, e, few, c.count-count.ensures.narrow, c.id_of-id.ensures.id)
 
 pub returns-else-is_first-bit-clause-value : goal.returns-else-is_first-bit-clause-value
 returns-else-is_first-bit-clause-value g c =
     let k = contents_of_placed c.args.self.now in
-    let e : signed_at k c.args.p ≡ neg_ℤ (pos c.id_of-id.result) = signed-other k c.args.p c.edge_of-edge.result c.id_of-id.result c.is_first.result c.bit.result c.edge_of-edge.ensures.edge c.id_of-id.ensures.id c.is_first.ensures.first c.bit.ensures.bit c.if-is_first-bit.false in
-    let few = (c.count-count.ensures.names.in_range c.edge_of-edge.result (omega (arith, c.args.self.now.fits.edges, c.edge_of-edge.ensures.within))).1 in
+    let e : signed_at k c.args.p ≡ neg_ℤ (pos c.id_of-id.result) = signed-other k c.args.p c.edge_and_side-edge.result.0 c.id_of-id.result c.edge_and_side-edge.result.1 c.bit.result c.edge_and_side-edge.ensures.edge c.id_of-id.ensures.id c.edge_and_side-edge.ensures.first c.bit.ensures.bit c.if-is_first-bit.false in
+    let few = (c.count-count.ensures.names.in_range c.edge_and_side-edge.result.0 (omega (arith, c.args.self.now.fits.edges, c.edge_and_side-edge.ensures.within))).1 in
     omega (arith, ints, e, few, c.count-count.ensures.narrow, c.id_of-id.ensures.id)
 
 pub returns-then-is_first-bit-clause-cost : goal.returns-then-is_first-bit-clause-cost
