@@ -8,7 +8,6 @@ use Rattle.topo_serve.specs.Pieces.{ended_behind, open_behind, last_line, cut}
 use Rattle.topo_serve.proofs.Ending.{last_none, last_one}
 use Rattle.topo_serve.specs.Serving.{over_lines, words_of_line, found_by_reads, found_in}
 use Rattle.navigate.specs.Bound.{most_words}
-use Rattle.topo_base.specs.Script.{line}
 use Rattle.topo_serve.proofs.Cutting.{same_line}
 use Rattle.topo_serve.proofs.Writing.{writes_nothing, writes_more, writes_failed, writes_ok}
 

@@ -27,6 +27,46 @@ use scratch_region::Marks;
 use std::sync::ledger::Ledger;
 use topo_base::{FaceId, IdNumber, NodeId, Signed};
 
+/// The signed edges that leave a node.
+#[inline(never)]
+fn answer_node<K: Sink, C: Ledger>(
+    served: &Served<'_>,
+    node: NodeId,
+    out: &mut K,
+    text: &mut Gathered,
+    steps: &mut Steps<C>,
+) -> Result<(), Failed>
+    ensures writes { Writes result (out_at (K.held out.old) (K.faults out.old) text.old.items)
+        (out_at (K.held out.new) (K.faults out.new) text.new.items)
+        (after_colon (items (served_map served.now) (script.Query.Node node.0))) }
+    ensures least { OnOk result (steps.old + length (unwrap_or (items (served_map served.now) (script.Query.Node node.0))
+        []) ≤ steps.new) }
+    ensures grows { steps.old ≤ steps.new }
+    ensures paid { steps.new ≤ steps.old + words_of_query (served_map served.now) (script.Query.Node node.0) }
+{
+    list_known(node_walk(*served, node, steps), out, text, steps)
+}
+
+/// The signed edges of a ring.
+#[inline(never)]
+fn answer_ring<K: Sink, C: Ledger>(
+    served: &Served<'_>,
+    edge: Signed,
+    out: &mut K,
+    text: &mut Gathered,
+    steps: &mut Steps<C>,
+) -> Result<(), Failed>
+    ensures writes { Writes result (out_at (K.held out.old) (K.faults out.old) text.old.items)
+        (out_at (K.held out.new) (K.faults out.new) text.new.items)
+        (after_colon (items (served_map served.now) (script.Query.Ring edge))) }
+    ensures least { OnOk result (steps.old + length (unwrap_or (items (served_map served.now) (script.Query.Ring edge))
+        []) ≤ steps.new) }
+    ensures grows { steps.old ≤ steps.new }
+    ensures paid { steps.new ≤ steps.old + words_of_query (served_map served.now) (script.Query.Ring edge) }
+{
+    list_known(ring_walk(*served, edge, steps), out, text, steps)
+}
+
 /// The signed edge that follows.
 fn answer_next<K: Sink, C: Ledger>(
     served: &Served<'_>,
@@ -93,6 +133,66 @@ fn answer_sides<K: Sink, C: Ledger>(
     }
 }
 
+/// The signed edges of a face.
+#[inline(never)]
+fn answer_face<K: Sink, C: Ledger>(
+    served: &Served<'_>,
+    face: FaceId,
+    out: &mut K,
+    text: &mut Gathered,
+    steps: &mut Steps<C>,
+) -> Result<(), Failed>
+    ensures writes { Writes result (out_at (K.held out.old) (K.faults out.old) text.old.items)
+        (out_at (K.held out.new) (K.faults out.new) text.new.items)
+        (after_colon (items (served_map served.now) (script.Query.Face face.0))) }
+    ensures least { OnOk result (steps.old + length (unwrap_or (items (served_map served.now) (script.Query.Face face.0))
+        []) ≤ steps.new) }
+    ensures grows { steps.old ≤ steps.new }
+    ensures paid { steps.new ≤ steps.old + words_of_query (served_map served.now) (script.Query.Face face.0) }
+{
+    list_known(face_walk(*served, face, steps), out, text, steps)
+}
+
+/// The components and isolated nodes in a face.
+#[inline(never)]
+fn answer_islands<K: Sink, C: Ledger>(
+    served: &Served<'_>,
+    face: FaceId,
+    out: &mut K,
+    text: &mut Gathered,
+    steps: &mut Steps<C>,
+) -> Result<(), Failed>
+    ensures writes { Writes result (out_at (K.held out.old) (K.faults out.old) text.old.items)
+        (out_at (K.held out.new) (K.faults out.new) text.new.items)
+        (after_colon (items (served_map served.now) (script.Query.Islands face.0))) }
+    ensures least { OnOk result (steps.old + length (unwrap_or (items (served_map served.now) (script.Query.Islands face.0))
+        []) ≤ steps.new) }
+    ensures grows { steps.old ≤ steps.new }
+    ensures paid { steps.new ≤ steps.old + words_of_query (served_map served.now) (script.Query.Islands face.0) }
+{
+    list_known(island_walk(*served, face, steps), out, text, steps)
+}
+
+/// The regions that a face is in.
+#[inline(never)]
+fn answer_regions<K: Sink, C: Ledger>(
+    served: &Served<'_>,
+    face: FaceId,
+    out: &mut K,
+    text: &mut Gathered,
+    steps: &mut Steps<C>,
+) -> Result<(), Failed>
+    ensures writes { Writes result (out_at (K.held out.old) (K.faults out.old) text.old.items)
+        (out_at (K.held out.new) (K.faults out.new) text.new.items)
+        (after_colon (items (served_map served.now) (script.Query.Regions face.0))) }
+    ensures least { OnOk result (steps.old + length (unwrap_or (items (served_map served.now) (script.Query.Regions face.0))
+        []) ≤ steps.new) }
+    ensures grows { steps.old ≤ steps.new }
+    ensures paid { steps.new ≤ steps.old + words_of_query (served_map served.now) (script.Query.Regions face.0) }
+{
+    list_known(region_walk(*served, face, steps), out, text, steps)
+}
+
 /// The face that contains a node or its component.
 fn answer_contains<K: Sink, C: Ledger>(
     served: &Served<'_>,
@@ -116,6 +216,7 @@ fn answer_contains<K: Sink, C: Ledger>(
 }
 
 /// The first region of one face that the other lies in too.
+#[inline(never)]
 fn answer_common<K: Sink, C: Ledger>(
     served: &Served<'_>,
     first: FaceId,
@@ -215,6 +316,7 @@ fn list_and_close<K: Sink, C: Ledger>(
 }
 
 /// The faces across the edges of a face. The marks are empty again where it ends, also by a fault.
+#[inline(never)]
 fn answer_adjacent<K: Sink, C: Ledger>(
     served: &Served<'_>,
     face: FaceId,
@@ -264,16 +366,16 @@ fn answer_items<K: Sink, C: Ledger>(
     ensures paid { IfAsk (line_of query.now) (λ q. steps.new ≤ steps.old + words_of_query (served_map served.now) q) }
 {
     match *query {
-        Query::Node(node) => list_known(node_walk(*served, node, steps), out, text, steps),
-        Query::Ring(edge) => list_known(ring_walk(*served, edge, steps), out, text, steps),
+        Query::Node(node) => answer_node(served, node, out, text, steps),
+        Query::Ring(edge) => answer_ring(served, edge, out, text, steps),
         Query::Next(edge) => answer_next(served, edge, out, text, steps),
         Query::Ends(edge) => answer_ends(served, edge, out, text, steps),
         Query::Sides(edge) => answer_sides(served, edge, out, text, steps),
-        Query::Face(face) => list_known(face_walk(*served, face, steps), out, text, steps),
+        Query::Face(face) => answer_face(served, face, out, text, steps),
         Query::Adjacent(face) => answer_adjacent(served, face, marks, out, text, steps),
         Query::Contains(node) => answer_contains(served, node, out, text, steps),
-        Query::Islands(face) => list_known(island_walk(*served, face, steps), out, text, steps),
-        Query::Regions(face) => list_known(region_walk(*served, face, steps), out, text, steps),
+        Query::Islands(face) => answer_islands(served, face, out, text, steps),
+        Query::Regions(face) => answer_regions(served, face, out, text, steps),
         Query::Common(first, second) => answer_common(served, first, second, out, text, steps),
         Query::Counts => answer_counts(served, out, text),
         Query::Blank | Query::Bad | Query::Long => unreachable!(),

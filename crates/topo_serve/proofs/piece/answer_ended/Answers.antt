@@ -1,5 +1,4 @@
-use Rattle.std.proofs.Common.{◌≡◌, List, [], ◌++◌, ◌∙◌, ap, arith, rules, sym, true}
-use Rattle.ports.proofs.Results.{on_ok_always}
+use Rattle.std.proofs.Common.{◌++◌, ◌∙◌, rules}
 use Rattle.navigate.specs.Bound.{served_map}
 use Rattle.topo_serve.proofs.Piecing.{front_none, no_items, line_answered, line_found, line_words}
 use Rattle.topo_serve.proofs.piece.answer_ended.Goals as goal
