@@ -24,6 +24,7 @@ pub mod CheckCosts
 pub mod NameLaws
 pub mod NumberLaws
 pub mod PlaceLaws
+pub mod LookAhead
 pub mod MadeSizes
 pub mod MakingLaws
 pub mod InCycles

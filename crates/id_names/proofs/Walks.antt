@@ -10,6 +10,15 @@ use Rattle.id_names.specs.Inverse.{walk, back_from, number_at}
 pub mark_within : (marks : List Bool) (x : ℕ) → x < length marks → get_or marks x false ≡ true → rank true marks x < rank true marks (length marks)
 mark_within marks x h e = omega (arith, rank_more_yes true marks x false h e, rank-le-rank true marks (x + 1) (length marks) (omega arith))
 
+-- a walk may not jump where it may no more, or where no mark is
+pub clear_first : (a b : Bool) → a ≡ false → (a && b) ≡ false
+clear_first false b e = refl
+clear_first true b e = cc
+
+pub clear_second : (a b : Bool) → b ≡ false → (a && b) ≡ false
+clear_second false b e = refl
+clear_second true b e = e
+
 module _ (places : List ℕ) (marks : List Bool) (back : List ℕ) (j : ℕ) where
   -- a walk that has come to no number
   pub walk_past : (tests x : ℕ) (may : Bool) → length places ≤ x → walk places marks back j tests may x ≡ None

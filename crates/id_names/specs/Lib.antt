@@ -6,6 +6,8 @@ pub mod RisingNames
 pub mod Faults
 pub mod Parts
 pub mod PartViews
+pub mod Known
+pub mod Searches
 pub mod Views
 pub mod Cycles
 pub mod Making

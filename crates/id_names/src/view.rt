@@ -5,11 +5,15 @@ ghost use Rattle.bit_words.specs.PackedView.{fields_of};
 ghost use Rattle.rank_select.specs.RankView.{counted};
 ghost use Rattle.rank_select.specs.Counts.{counts_of};
 ghost use Rattle.id_names.specs.Faults.{name_fault};
+ghost use Rattle.id_names.specs.Known.{AreKnown};
 ghost use Rattle.id_names.specs.PartViews.{names_over};
+ghost use Rattle.id_names.specs.RisingNames.{ids_by_number};
 
 use crate::inverse::Inverse;
+use crate::known::{KnownNumbers, known_numbers, known_of, none_known};
 use crate::name_parts::NameParts;
 use crate::rising_ids::RisingIds;
+use crate::searches::four_numbers;
 use bit_words::Steps;
 use rank_select::RankView;
 use std::cmp::Ordering;
@@ -21,15 +25,19 @@ use topo_base::IdNumber;
 pub struct NamesView<'a> {
     ids: RisingIds<'a>,
     inverse: Inverse<'a>,
+    /// What was looked up ahead.
+    known: KnownNumbers,
     ghost count: { length (fields_of ids.lows) ≡ length (fields_of inverse.places) },
     ghost right: { name_fault (names_over ids inverse) (counts_of (counted ids.high))
         (counts_of (counted inverse.marks)) ≡ None },
+    ghost looked_up: { AreKnown (ids_by_number (names_over ids inverse)) known },
 }
 
 impl<'a> NamesView<'a> {
-    ghost use Rattle.std.specs.Prelude.{◌≡◌, ◌≢◌, ◌<◌, ◌≤◌, ◌+◌, ◌*◌, ◌^◌, ℕ, length, slice_index, None, Some, MatchOption};
+    ghost use Rattle.std.specs.Prelude.{◌≡◌, ◌≢◌, ◌<◌, ◌≤◌, ◌+◌, ◌*◌, ◌^◌, ℕ, length, slice_index, None, Some, IfSome, MatchOption};
     ghost use Rattle.bit_words.specs.Digits.{digits};
     ghost use Rattle.id_names.specs.Names.{AreDistinctIds, number_of};
+    ghost use Rattle.id_names.specs.Known.{asked, IsNew};
     ghost use Rattle.id_names.specs.RisingNames.{id_bound, id_at, number_at};
     ghost use Rattle.id_names.specs.Parts.{fault_of, names_of, HasSizes};
     ghost use Rattle.id_names.specs.Views.{ids_of, names_in};
@@ -50,6 +58,7 @@ impl<'a> NamesView<'a> {
                 marks: RankView::new(parts.marks, parts.mark_counts),
                 back: parts.back,
             },
+            known: none_known(),
         }
     }
 
@@ -137,11 +146,44 @@ impl<'a> NamesView<'a> {
         ensures found { MatchOption result ((k : ℕ) → k < length (ids_of self.now)
             → slice_index (ids_of self.now) k ≢ id) (λ number. (number < length (ids_of self.now))
             × (slice_index (ids_of self.now) number ≡ id)) }
+        ensures ahead { steps.old < steps.new → IsNew id (self.now).known }
         ensures grows { steps.old ≤ steps.new }
         ensures cost { steps.new ≤ steps.old + 12 * digits (length (ids_of self.now) + 2) + 60 }
     {
+        if let Some(known) = known_of(&self.known, id) {
+            return known.number;
+        }
         let place = self.place_of(id, steps)?;
         self.inverse.number(place, steps)
+    }
+
+    /// The place of an id of the list, where there is an id and it stands there.
+    fn place_for<C: Ledger>(&self, id: Option<IdNumber>, steps: &mut Steps<C>) -> Option<usize>
+        ensures place { IfSome id (λ id. MatchOption result ((k : ℕ) → k < length (ids_of self.now)
+            → id_at (names_in self.now) k ≢ id) (λ place. (place < length (ids_of self.now))
+            × (id_at (names_in self.now) place ≡ id))) }
+        ensures grows { steps.old ≤ steps.new }
+        ensures cost { steps.new ≤ steps.old + 8 * digits (length (ids_of self.now) + 2) + 32 }
+    {
+        self.place_of(id?, steps)
+    }
+
+    /// Looks up four ids side by side, each where there is one: `number_of` then knows their numbers, and reads nothing
+    /// for them. What is read for one doesn't wait for what is read for another, so it takes less time than one by one.
+    pub fn look_ahead<C: Ledger>(&mut self, ids: [Option<IdNumber>; 4], steps: &mut Steps<C>)
+        ensures names { names_in self.new ≡ names_in self.old }
+        ensures asked { asked self.new.known ≡ ids }
+        ensures grows { steps.old ≤ steps.new }
+        ensures cost { steps.new ≤ steps.old + 4 * (11 * digits (length (ids_of self.old) + 2) + 46) }
+    {
+        let places = [
+            self.place_for(ids[0], steps),
+            self.place_for(ids[1], steps),
+            self.place_for(ids[2], steps),
+            self.place_for(ids[3], steps),
+        ];
+        let numbers = four_numbers(&self.inverse, places, steps);
+        self.known = known_numbers(ids, numbers);
     }
 
     /// The number at this place of the list of names that rises by id.

@@ -4,7 +4,7 @@ use Rattle.bit_words.specs.Digits.{digits}
 use Rattle.bit_words.specs.PackedView.{fields_of}
 use Rattle.rank_select.specs.RankView.{counted}
 use Rattle.id_names.specs.Inverse.{walk, stride, back_from}
-use Rattle.id_names.proofs.Walks.{mark_within, walk_past, walk_here, walk_ends, walked, left_jumped, left_followed}
+use Rattle.id_names.proofs.Walks.{mark_within, walk_past, walk_here, walk_ends, walked, left_jumped, left_followed, clear_first, clear_second}
 use Rattle.id_names.proofs.inverse.Inverse.number.Goals as goal
 use Rattle.id_names.proofs.inverse.Inverse.number.Goals.{then-may_jump+then-bit, else-may_jump, else-may_jump-via-then-may_jump+else-bit, else-may_jump-via-else-may_jump}
 
@@ -23,14 +23,6 @@ slack_same true true e = refl
 slack_same false false e = refl
 slack_same true false e = cc
 slack_same false true e = cc
-
-clear_first : (a b : Bool) → a ≡ false → (a && b) ≡ false
-clear_first false b e = refl
-clear_first true b e = cc
-
-clear_second : (a b : Bool) → b ≡ false → (a && b) ≡ false
-clear_second false b e = refl
-clear_second true b e = e
 
 pub loop-test-init : goal.loop-test-init
 loop-test-init g c = record {

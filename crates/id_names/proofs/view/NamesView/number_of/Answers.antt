@@ -6,6 +6,7 @@ use Rattle.rank_select.specs.Counts.{counts_of}
 use Rattle.rank_select.specs.RankView.{counted}
 use Rattle.id_names.specs.Views.{ids_of, names_in}
 use Rattle.id_names.proofs.NameLaws.{length-ids, right_names, no_number, its_number}
+use Rattle.id_names.proofs.LookAhead.{number_told}
 use Rattle.id_names.proofs.NumberLaws.{number_of-at, number_of-none}
 use Rattle.id_names.proofs.view.NamesView.number_of.Goals as goal
 
@@ -44,3 +45,9 @@ returns-clause-cost g c =
     let v = c.args.self.now in
     let e : digits (length (fields_of v.inverse.places) + 2) ≡ digits (length (ids_of v) + 2) = ap (λ n. digits (n + 2)) (sym (length-ids (names_in v))) in
     omega (arith, e, c.number.ensures.cost, c.place_of.ensures.cost)
+
+pub returns-in-Some-clause-found : goal.returns-in-Some-clause-found
+returns-in-Some-clause-found g c =
+    let ids = ids_of c.args.self.now in
+    let is = c.in-Some.ensures.right ids c.args.self.now.looked_up c.args.id c.in-Some.ensures.this in
+    number_told ids c.args.id c.in-Some.known.number is
