@@ -92,8 +92,8 @@ impl Search {
     }
 }
 
-/// The numbers of four places, each where there is one.
-pub(crate) fn four_numbers<C: Ledger>(
+/// Follows the walks from four places side by side to their ends, each where there is a place.
+fn follow_four<C: Ledger>(
     inverse: &Inverse<'_>,
     places: [Option<usize>; 4],
     steps: &mut Steps<C>,
@@ -118,4 +118,20 @@ pub(crate) fn four_numbers<C: Ledger>(
         third.found(),
         fourth.found(),
     ]
+}
+
+/// The numbers of four places, each where there is a place.
+pub(crate) fn four_numbers<C: Ledger>(
+    inverse: &Inverse<'_>,
+    places: [Option<usize>; 4],
+    steps: &mut Steps<C>,
+) -> [Option<usize>; 4]
+    ensures numbers { result ≡ map (number_for inverse.now) places }
+    ensures grows { steps.old ≤ steps.new }
+    ensures cost { steps.new ≤ steps.old + 12 * digits (length (fields_of inverse.now.places) + 2) + 56 }
+{
+    if let [None, None, None, None] = places {
+        return [None; 4];
+    }
+    follow_four(inverse, places, steps)
 }

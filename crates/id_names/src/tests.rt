@@ -98,6 +98,30 @@ fn open<'a, C: Ledger>(
 }
 
 /// Whether these are the ids by number, each found, and the others are found at no number.
+fn has_all<C: Ledger>(
+    names: &NamesView<'_>,
+    ids: &[IdNumber],
+    others: &[IdNumber],
+    steps: &mut Steps<C>,
+) -> bool {
+    if names.count() != ids.len() {
+        return false;
+    }
+    for number in 0..names.count() {
+        let id = names.id_of(number, steps);
+        if id != ids[number] || names.number_of(id, steps) != Some(number) {
+            return false;
+        }
+    }
+    for id in others {
+        if names.number_of(*id, steps).is_some() {
+            return false;
+        }
+    }
+    true
+}
+
+/// The same, before some of them are looked up ahead and after.
 fn has_ids<C: Ledger>(
     alloc: Global,
     names: NamesView<'_>,
@@ -110,21 +134,18 @@ fn has_ids<C: Ledger>(
     requires some { 0 < blank.parts }
 {
     let mut steps = Steps::<C>::new(alloc, blank);
-    if names.count() != ids.len() {
+    if !has_all(&names, ids, others, &mut steps) {
         return false;
     }
-    for number in 0..names.count() {
-        let id = names.id_of(number, &mut steps);
-        if id != ids[number] || names.number_of(id, &mut steps) != Some(number) {
-            return false;
-        }
-    }
-    for id in others {
-        if names.number_of(*id, &mut steps).is_some() {
-            return false;
-        }
-    }
-    true
+    let mut names = names;
+    let ahead = [
+        ids.last().copied(),
+        None,
+        others.first().copied(),
+        ids.first().copied(),
+    ];
+    names.look_ahead(ahead, &mut steps);
+    has_all(&names, ids, others, &mut steps)
 }
 
 /// Whether the names of these words are these ids by number, and no others.

@@ -119,10 +119,10 @@ module _ (c : Contents) (h : is_whole c ≡ true) where
         | inr g ↦ alone d (length ps) listed two (no_positions ps within (no_edges g))
       ]
     where
-      many : (d n listed : ℕ) → 2 < d → 39 * d + 213 + (63 * d + 566) * n ≤ 256 * d * (n + listed + 2)
+      many : (d n listed : ℕ) → 2 < d → 39 * d + 213 + (63 * d + 566) * n ≤ 256 * d * (n + listed + 1) + 128 * d
       many d n listed b = let each : n * (63 * d + 566) ≤ n * (256 * d) = mul-le-mul_left n (omega (arith, b)) in omega (arith, each, b)
 
-      alone : (d n listed : ℕ) → 2 ≤ d → n ≡ 0 → 39 * d + 213 + (63 * d + 566) * n ≤ 256 * d * (n + listed + 2)
+      alone : (d n listed : ℕ) → 2 ≤ d → n ≡ 0 → 39 * d + 213 + (63 * d + 566) * n ≤ 256 * d * (n + listed + 1) + 128 * d
       alone d n listed two e = rw e (omega (arith, two))
 
   pub adjacent_paid : (ps : List ℕ) (left listed first second third last : ℕ) → ((x : ℕ) → has ps x ≡ true → x < length c.code.a) → left ≤ length ps → second ≤ first + (12 * line_digits c + 60)

@@ -185,7 +185,7 @@ module _ (c : Contents) (h : is_whole c ≡ true) where
   digits_line = ap digits (size_is c w)
 
   pub words_line : (walked listed : ℕ) → most_words (map_with c) walked listed ≡ line_words c walked listed
-  words_line walked listed = ap (λ d. 256 * d * (walked + listed + 2)) digits_line
+  words_line walked listed = ap (λ d. 256 * d * (walked + listed + 1) + 128 * d) digits_line
 
   -- faces
   face_from : (f : ℕ) → has (map_with c).faces f ≡ true → has c.faces f ≡ true

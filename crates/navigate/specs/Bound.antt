@@ -16,9 +16,9 @@ map_with c = map_of (rows_of_contents c)
 abbrev pub served_map : Served → PlaneMap
 served_map s = map_with (contents_of_view s)
 
--- how many words one line of a script may read, by what is gone round for it and what is listed
+-- how many words one question may read, by what is gone round for it and what is listed
 abbrev pub most_words : PlaneMap → ℕ → ℕ → ℕ
-most_words m walked listed = 256 * digits (size m) * (walked + listed + 2)
+most_words m walked listed = 256 * digits (size m) * (walked + listed + 1) + 128 * digits (size m)
 
 -- how many binary digits the size of the map has, by the lists of its contents
 abbrev pub line_digits : Contents → ℕ
@@ -26,4 +26,4 @@ line_digits c = digits (2 * length c.edges + length c.isolated + 2 * length c.re
 
 -- the same bound by the contents
 abbrev pub line_words : Contents → ℕ → ℕ → ℕ
-line_words c walked listed = 256 * line_digits c * (walked + listed + 2)
+line_words c walked listed = 256 * line_digits c * (walked + listed + 1) + 128 * line_digits c

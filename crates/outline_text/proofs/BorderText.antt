@@ -69,7 +69,7 @@ unknown_least m r first last unknown grows =
     let none : 0 ≡ edges_told m r = ap (λ (b : Bool). length (flat_map (λ ds. ds) (if b then border m r else []))) unknown in
     omega (arith, none, grows)
 
-few_words : (d n : ℕ) → 256 * d * (0 + 0 + 2) ≤ 8192 * d * (n + 2)
+few_words : (d n : ℕ) → 256 * d * (0 + 0 + 1) + 128 * d ≤ 8192 * d * (n + 2)
 few_words d n = omega arith
 
 -- looking for the region alone reads fewer words

@@ -9,13 +9,15 @@ ghost use Rattle.id_names.specs.Views.{ids_of};
 ghost use Rattle.file_laws.specs.Contents.{contents_with};
 ghost use Rattle.file_laws.specs.Lawful.{is_whole};
 
-use bit_words::{BitView, PackedView};
+use crate::ahead::IdsAhead;
+use bit_words::{BitView, PackedView, Steps};
 use id_names::NamesView;
 use parens::ParenView;
+use std::sync::ledger::Ledger;
 use turan_code::TuranView;
 
 /// A lawful file that is open: views of its sections, whose contents are whole.
-#[derive(Drop)]
+#[derive(Clone, Copy)]
 pub struct OpenFile<'a> {
     pub(crate) code: TuranView<'a>,
     pub(crate) forward: BitView<'a>,
@@ -34,7 +36,9 @@ pub struct OpenFile<'a> {
 }
 
 impl<'a> OpenFile<'a> {
-    ghost use Rattle.std.specs.Prelude.{◌≡◌, IsTrue};
+    ghost use Rattle.std.specs.Prelude.{◌≡◌, ◌≤◌, ◌+◌, ◌*◌, length, IsTrue};
+    ghost use Rattle.bit_words.specs.Digits.{digits};
+    ghost use Rattle.id_names.specs.Known.{asked};
     ghost use Rattle.turan_code.specs.TuranView.{code_of_view};
     ghost use Rattle.id_names.specs.Views.{ids_of};
     ghost use Rattle.bit_words.specs.BitView.{bits_of};
@@ -79,5 +83,21 @@ impl<'a> OpenFile<'a> {
             region_tree,
             members,
         }
+    }
+
+    /// Looks up these ids: the names know their numbers then, and read nothing when they are asked for them.
+    pub fn look_ahead<C: Ledger>(&mut self, ids: &IdsAhead, steps: &mut Steps<C>)
+        ensures contents { contents_of_file self.new ≡ contents_of_file self.old }
+        ensures nodes { asked (self.new).nodes.known ≡ ids.now.nodes }
+        ensures edges { asked (self.new).edges.known ≡ ids.now.edges }
+        ensures faces { asked (self.new).faces.known ≡ ids.now.faces }
+        ensures grows { steps.old ≤ steps.new }
+        ensures cost { steps.new ≤ steps.old + 4 * (11 * digits (length (ids_of (self.old).nodes) + 2) + 46)
+            + 4 * (11 * digits (length (ids_of (self.old).edges) + 2) + 46)
+            + 4 * (11 * digits (length (ids_of (self.old).faces) + 2) + 46) }
+    {
+        self.nodes.look_ahead(ids.nodes, steps);
+        self.edges.look_ahead(ids.edges, steps);
+        self.faces.look_ahead(ids.faces, steps);
     }
 }

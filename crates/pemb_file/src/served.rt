@@ -35,6 +35,13 @@ impl<'a> Served<'a> {
         Served { file }
     }
 
+    /// The file.
+    pub fn file(&self) -> &'a OpenFile<'a>
+        ensures { contents_of_file result.now ≡ contents_of_view self.now }
+    {
+        self.file
+    }
+
     /// How many nodes, edges, faces, components and regions there are.
     pub fn counts(&self) -> Counts
         ensures { AreCounts (contents_of_view self.now) result }

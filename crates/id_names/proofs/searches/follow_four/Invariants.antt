@@ -1,6 +1,6 @@
 use Rattle.std.proofs.Common.{◌≡◌, ◌≤◌, ◌+◌, ◌*◌, ◌-◌, get_or, None}
 use Rattle.id_names.specs.Searches.{number_for, found_within, jump_left}
-use Rattle.id_names.proofs.searches.four_numbers.Given as goal
+use Rattle.id_names.proofs.searches.follow_four.Given as goal
 
 abbrev pub invariant-loop : goal.invariant-loop
 invariant-loop g l = record {

@@ -2,7 +2,7 @@ use Rattle.std.proofs.Common.{rules, ◌≡◌, ℕ, ◌+◌, ◌-◌, List, [],
 use Rattle.id_names.specs.Searches.{number_for, found_within}
 use Rattle.id_names.specs.declared.inverse.Inverse.{Inverse}
 use Rattle.id_names.specs.declared.searches.Search.{Search}
-use Rattle.id_names.proofs.searches.four_numbers.Goals as goal
+use Rattle.id_names.proofs.searches.follow_four.Goals as goal
 
 -- a list of four, item by item
 by_items : (f : Option ℕ → Option ℕ) (xs : List (Option ℕ)) → length xs ≡ 4 → (f (get_or xs 0 None) ∷ f (get_or xs 1 None) ∷ f (get_or xs 2 None) ∷ f (get_or xs 3 None) ∷ []) ≡ map f xs
