@@ -20,6 +20,10 @@ served_map s = map_with (contents_of_view s)
 abbrev pub most_words : PlaneMap → ℕ → ℕ → ℕ
 most_words m walked listed = 256 * digits (size m) * (walked + listed + 1) + 128 * digits (size m)
 
+-- how many words looking up the ids of one question ahead may read
+abbrev pub words_ahead : PlaneMap → ℕ
+words_ahead m = 128 * digits (size m)
+
 -- how many binary digits the size of the map has, by the lists of its contents
 abbrev pub line_digits : Contents → ℕ
 line_digits c = digits (2 * length c.edges + length c.isolated + 2 * length c.regions + 2)

@@ -3,6 +3,7 @@
 #![tactic(auto)]
 
 mod across;
+mod ahead;
 mod common_region;
 mod directed;
 mod edges;
@@ -23,6 +24,7 @@ mod unseen;
 mod upward;
 
 pub use across::AdjacentWalk;
+pub use ahead::look_ahead;
 pub use common_region::{common, region_walk};
 pub use directed::{number_with, with_direction};
 pub use edges::{FaceEdges, NodeEdges, RingEdges, face_edges, node_edges, ring_edges};

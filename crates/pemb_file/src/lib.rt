@@ -1,6 +1,7 @@
 //! The file of a plane map: bytes opened, where they are lawful, and an image written.
 #![tactic(auto)]
 
+mod ahead;
 mod counts;
 mod form;
 mod header;
@@ -15,6 +16,7 @@ mod section;
 mod served;
 mod writing;
 
+pub use ahead::IdsAhead;
 pub use counts::Counts;
 pub use file_laws::FileFault;
 pub use open_file::OpenFile;

@@ -1,9 +1,11 @@
 -- What serving takes, writes and reads.
-use Rattle.std.specs.Prelude.{◌≡◌, ℕ, ◌+◌, ◌≤◌, Bool, true, false, if◌then◌else◌, List, [], ◌∷◌, flat_map, length, take, unwrap_or, Option, Some, Result, Ok, Err}
+use Rattle.std.specs.Prelude.{◌≡◌, ℕ, ◌+◌, ◌*◌, ◌≤◌, Bool, true, false, if◌then◌else◌, List, [], ◌∷◌, flat_map, length, take, unwrap_or, Option, Some, Result, Ok, Err}
 use Rattle.std.specs.Io.KnownBytes.{Appends, Consumes}
 use Rattle.ports.specs.Outside.{Rose, GainsPart, IsReadToEnd}
 use Rattle.topo_base.specs.Script.{Query, Line, lines, line}
+use Rattle.bit_words.specs.Digits.{digits}
 use Rattle.plane_model.specs.PlaneMap.{PlaneMap}
+use Rattle.plane_model.specs.Consistent.{size}
 use Rattle.plane_model.specs.Answers.{answer, answers, items, listed, walked, query_walked}
 use Rattle.navigate.specs.Bound.{most_words}
 use Rattle.topo_serve.specs.Pieces.{ended_lines}
@@ -19,12 +21,16 @@ unfoldable pub over_lines : (List ℕ → ℕ) → List (List ℕ) → ℕ
 over_lines f [] = 0
 over_lines f (l ∷ ls) = f l + over_lines f ls
 
--- how many words are read at most for a query, and for a line
+-- how many words are read at most to answer a query, and a line
 abbrev pub words_of_query : PlaneMap → Query → ℕ
 words_of_query m q = most_words m (query_walked m q) (length (unwrap_or (items m q) []))
 
+abbrev pub words_to_answer : PlaneMap → List ℕ → ℕ
+words_to_answer m bytes = most_words m (walked m bytes) (listed m bytes)
+
+-- and for a line in all: to look its id up ahead, and to answer it
 abbrev pub words_of_line : PlaneMap → List ℕ → ℕ
-words_of_line m bytes = most_words m (walked m bytes) (listed m bytes)
+words_of_line m bytes = 256 * digits (size m) * (walked m bytes + listed m bytes + 2)
 
 -- whether a query asks for the counts, whose items stand in the file's head
 abbrev pub is_counts : Query → Bool

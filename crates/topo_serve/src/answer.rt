@@ -10,7 +10,7 @@ ghost use Rattle.pemb_file.specs.Served.{contents_of_view};
 ghost use Rattle.navigate.specs.Bound.{served_map};
 ghost use Rattle.navigate.specs.AdjacentWalk as across;
 ghost use Rattle.topo_serve.specs.Gathering.{out_at, Writes};
-ghost use Rattle.topo_serve.specs.Serving.{words_of_line, found_by_reads, words_of_query, found_for};
+ghost use Rattle.topo_serve.specs.Serving.{words_to_answer, found_by_reads, words_of_query, found_for};
 
 use crate::gathered::{Gathered, gather, gather_both};
 use crate::item::{Item, gather_item};
@@ -444,7 +444,7 @@ pub(crate) fn answer_line<K: Sink, C: Ledger>(
         (out_at (K.held out.new) (K.faults out.new) text.new.items) (answer (served_map served.now) line.now) }
     ensures least { OnOk result (steps.old + found_by_reads (served_map served.now) line.now ≤ steps.new) }
     ensures grows { steps.old ≤ steps.new }
-    ensures paid { steps.new ≤ steps.old + words_of_line (served_map served.now) line.now }
+    ensures paid { steps.new ≤ steps.old + words_to_answer (served_map served.now) line.now }
 {
     match read_line(line) {
         Query::Blank => Ok(()),

@@ -1,6 +1,7 @@
 //! Answers a script from a served file, as it arrives, without an allocator.
 #![tactic(auto)]
 
+mod ahead;
 mod answer;
 mod fault;
 mod gathered;

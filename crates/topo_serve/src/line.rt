@@ -1,9 +1,10 @@
 //! The line that is being read.
 
-ghost use Rattle.std.specs.Prelude.{◌≡◌, ◌++◌};
-ghost use Rattle.topo_serve.specs.Pieces.{cut};
+ghost use Rattle.std.specs.Prelude.{◌≡◌, ◌<◌, ◌++◌, length, slice_index, MatchOption};
+ghost use Rattle.topo_serve.specs.Pieces.{cut, HasNoFeed};
 
 use arrayvec::ArrayVec;
+use memchr::memchr;
 
 /// More bytes than a line may have, its carriage return among them: a line is long exactly where these of it are.
 pub(crate) const KEPT: usize = 257;
@@ -17,4 +18,12 @@ pub(crate) fn go_on(line: &mut Line, bytes: &[u8])
 {
     let count = line.remaining_capacity().min(bytes.len());
     line.try_extend_from_slice(&bytes[..count]).unwrap();
+}
+
+/// Where the first line feed of some bytes stands.
+pub(crate) fn line_end(bytes: &[u8]) -> Option<usize>
+    ensures { MatchOption result (HasNoFeed (length bytes.now) bytes.now)
+        (λ end. (end < length bytes.now) × (slice_index bytes.now end ≡ 10) × HasNoFeed end bytes.now) }
+{
+    memchr(b'\n', bytes)
 }

@@ -101,6 +101,7 @@ pub fn serve<S: Source, K: Sink, C: Ledger>(
       steps_after = steps.new;
     }) result }
 {
+    let mut file = *served.file();
     let mut buffer = [0u8; PIECE];
     let mut text = Gathered::new();
     let mut line = Line::new();
@@ -120,7 +121,7 @@ pub fn serve<S: Source, K: Sink, C: Ledger>(
             return Err(ServeFault::ScriptTooLong);
         }
         match answer_piece(
-            &served,
+            &mut file,
             &buffer[..count],
             &mut line,
             marks,
