@@ -1668,9 +1668,9 @@ struct Told {
     out: &'static str,
 }
 
-/// Walks and outlines in the island's file and in that of a grid, an upgrade of that file, its tables, and words that
-/// are of no form.
-const TOLD: [Told; 23] = [
+/// Walks and outlines in the island's file and in that of a grid, an upgrade of that file, its tables, the file of these,
+/// and words that are of no form.
+const TOLD: [Told; 24] = [
     Told {
         words: &["hops", "map.pemb", "0", "2"],
         status: Status::Done,
@@ -1786,6 +1786,11 @@ const TOLD: [Told; 23] = [
         status: Status::Done,
         out: "dumped 5 4 2 2 2\n",
     },
+    Told {
+        words: &["build", "maps", "again.pemb"],
+        status: Status::Done,
+        out: "built 5 4 2 2 2\n",
+    },
 ];
 
 /// Whether words over a shelf tell what they have to.
@@ -1826,8 +1831,16 @@ fn shelf_of_files(alloc: Global) -> Result<Option<MemoryShelf<'static>>, Fail> {
     Ok(Some(shelf))
 }
 
+/// Whether the file of the tables that were dumped is that of which they were dumped.
+fn is_built_again(shelf: &MemoryShelf<'_>) -> bool {
+    match (shelf.file("again.pemb"), shelf.file("new.pemb")) {
+        (Some(again), Some(new)) => again == new,
+        _ => false,
+    }
+}
+
 /// Whether the island's file in form 1 is answered as its tables are, walked as it has to be, and answered the same
-/// once it is upgraded.
+/// once it is upgraded; and whether its tables are dumped, answered and built again.
 fn answers_old_isle<L: Ledger>(alloc: Global, blank: Blank) -> Result<bool, Fail>
     requires name { blank.name ≡ L.name }
     requires parts { blank.parts ≡ L.parts }
@@ -1844,7 +1857,8 @@ fn answers_old_isle<L: Ledger>(alloc: Global, blank: Blank) -> Result<bool, Fail
         answers_well(alloc, &words, &ISLE_WITH_REGIONS, &mut shelf, &mut steps)?
             && all_told_well(alloc, &TOLD, &mut shelf, &mut steps)?
             && answers_well(alloc, &upgraded, &ISLE_WITH_REGIONS, &mut shelf, &mut steps)?
-            && answers_well(alloc, &dumped, &ISLE_WITH_REGIONS, &mut shelf, &mut steps)?,
+            && answers_well(alloc, &dumped, &ISLE_WITH_REGIONS, &mut shelf, &mut steps)?
+            && is_built_again(&shelf),
     )
 }
 
