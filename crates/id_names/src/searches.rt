@@ -112,12 +112,7 @@ fn follow_four<C: Ledger>(
         third = third.step(inverse, steps);
         fourth = fourth.step(inverse, steps);
     }
-    [
-        first.found(),
-        second.found(),
-        third.found(),
-        fourth.found(),
-    ]
+    [first.found(), second.found(), third.found(), fourth.found()]
 }
 
 /// The numbers of four places, each where there is a place.

@@ -75,18 +75,18 @@ front_none (b ∷ front) end none = absurd (omega (arith, none))
 -- what a line may read is what looking it up ahead and answering it may
 pub words_in_line : (m : PlaneMap) (l : List ℕ) → words_to_answer m l + words_ahead m ≡ words_of_line m l
 words_in_line m l = in_all (digits (size m)) (walked m l + listed m l)
-    where
-      in_all : (d n : ℕ) → 256 * d * (n + 1) + 128 * d + 128 * d ≡ 256 * d * (n + 2)
-      in_all d n = omega arith
+  where
+    in_all : (d n : ℕ) → 256 * d * (n + 1) + 128 * d + 128 * d ≡ 256 * d * (n + 2)
+    in_all d n = omega arith
 
 -- lines may read at least what looking them up ahead may
 pub ahead_fits : (m : PlaneMap) (ls : List (List ℕ)) → length ls * words_ahead m ≤ over_lines (words_of_line m) ls
 unfolding over_lines
 ahead_fits m [] = omega arith
 ahead_fits m (l ∷ ls) = one_more (length ls) (words_ahead m) (words_to_answer m l) (words_of_line m l) (over_lines (words_of_line m) ls) (words_in_line m l) (ahead_fits m ls)
-    where
-      one_more : (n a w all sum : ℕ) → w + a ≡ all → n * a ≤ sum → suc n * a ≤ all + sum
-      one_more n a w all sum e h = omega (arith, e, h)
+  where
+    one_more : (n a w all sum : ℕ) → w + a ≡ all → n * a ≤ sum → suc n * a ≤ all + sum
+    one_more n a w all sum e h = omega (arith, e, h)
 
 -- after a line is answered, one line less is looked up ahead
 paid_more : (ahead a w all s sum t u : ℕ) → w + a ≡ all → t ≤ s + sum + ahead * a → u ≤ t + w → u ≤ s + (sum + all) + (ahead - 1) * a
@@ -97,7 +97,7 @@ paid_more (suc n) a w all s sum t u e h k = let less : suc n - 1 ≡ n = omega a
 pub as_many : (front other bytes : List ℕ) → length (ended_behind front bytes) ≡ length (ended_behind other bytes)
 unfolding ended_behind
 as_many front other [] = refl
-as_many front other (b ∷ bytes) = elim (b == 10) [ | true ↦ refl | false ↦ as_many (front ++ b ∷ []) (other ++ b ∷ []) bytes ]
+as_many front other (b ∷ bytes) = elim (b == 10) [ true ↦ refl | false ↦ as_many (front ++ b ∷ []) (other ++ b ∷ []) bytes ]
 
 -- lines are looked up ahead
 pub answered_ahead : (m : PlaneMap) (start piece front rest : List ℕ) (s t u ahead later : ℕ) (a b : Out) → IsAnswered m start piece front rest s t ahead a b

@@ -50,9 +50,9 @@ returns-clause-found g c = λ tests.
     let other : get_or (fields_of v.places) w.number 0 ≢ w.place = λ e. c.if-next-walk.false (c.field-next.ensures.field ∙ e) in
     let later : tests + 1 - 1 ≡ tests = omega arith in
     let stays : (w.may_jump && get_or marks w.number false) ≡ false =
-        elim c.else-walk.branch [
-          | else-walk-via-then-walk+else-bit b ↦ clear_second w.may_jump (get_or marks w.number false) (subst (λ bits. get_or bits w.number false ≡ false) b.bits.ensures.bits (sym b.bit.ensures.bit ∙ b.if-bit.false))
-          | else-walk-via-else-walk b ↦ clear_first w.may_jump (get_or marks w.number false) b.if-walk.false
-        ] in
+    elim c.else-walk.branch [
+      | else-walk-via-then-walk+else-bit b ↦ clear_second w.may_jump (get_or marks w.number false) (subst (λ bits. get_or bits w.number false ≡ false) b.bits.ensures.bits (sym b.bit.ensures.bit ∙ b.if-bit.false))
+      | else-walk-via-else-walk b ↦ clear_first w.may_jump (get_or marks w.number false) b.if-walk.false
+    ] in
     let follows = walk_follows (fields_of v.places) marks back w.place (tests + 1) w.number w.may_jump (omega arith) (omega (arith, c.count.ensures, c.if-walk-count.false)) other stays in
     rw c.in-UnderWay.is (rw c.field-next.ensures.field (sym (follows ∙ ap (λ n. walk (fields_of v.places) marks back w.place n w.may_jump (get_or (fields_of v.places) w.number 0)) later)))
