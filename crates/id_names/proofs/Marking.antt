@@ -1,5 +1,5 @@
 -- A walk along a cycle that marks every so many members.
-use Rattle.std.proofs.Common.{◌≡◌, ℕ, zero, suc, ◌+◌, ◌-◌, ◌*◌, ◌/◌, ◌%◌, ◌<◌, ◌≤◌, inl, inr, true, false, ◌==◌, cond, List, length, get_or, refl, sym, ap, subst, ◌∙◌, arith, eq-eqb, Option, Some, None}
+use Rattle.std.proofs.Common.{◌≡◌, ℕ, suc, ◌+◌, ◌-◌, ◌*◌, ◌/◌, ◌%◌, ◌<◌, ◌≤◌, inl, inr, true, false, ◌==◌, cond, List, length, get_or, refl, sym, ap, subst, ◌∙◌, arith, eq-eqb, Option, Some, None}
 use Rattle.std.proofs.Math.ListN.{set, length-set}
 use Rattle.std.proofs.lemmas.Bool.{both_ways, cases_eq, cases_lt, ne_eqb, lt-ltb, le-ltb}
 use Rattle.std.proofs.lemmas.List.{get_or-set_same, get_or-set_other}
@@ -9,148 +9,174 @@ use Rattle.orbits.proofs.Numbers.{has_place}
 use Rattle.id_names.specs.Cycles.{HavePointers, mark_at}
 use Rattle.id_names.proofs.Members.{AreMembers}
 
--- a multiple of the stride, the one before it, and a number that is none
-pub at_multiple : (i stride : ℕ) → i % stride ≡ 0 → i / stride * stride ≡ i
-at_multiple i stride e = let d = div-add-mod' i stride in omega arith
+-- a number by the one before it: a multiple of the stride, and none
+multiple_after : (i stride : ℕ) → 1 ≤ stride → 1 ≤ i → (i - 1) % stride + 1 ≡ stride → (i % stride ≡ 0) × (i / stride * stride ≡ i)
+multiple_after i stride some more full =
+    let next = suc ((i - 1) / stride) in
+    let before = div-add-mod' (i - 1) stride in
+    let parts = div-add-mod' i stride in
+    let whole : next * stride + 0 ≡ i = omega arith in
+    let quotient : i / stride ≡ next = subst (λ z. z / stride ≡ next) whole (div-mul-add next stride 0 some) in
+    let multiple : i / stride * stride ≡ i = ap (λ q. q * stride) quotient ∙ omega arith in
+    (omega arith, multiple)
 
-pub before_multiple : (i stride : ℕ) → 1 ≤ stride → i % stride ≡ 0 → 0 < i → (i - 1) / stride * stride ≡ i - stride
-before_multiple i stride some e more = from_quotient (i / stride) (at_multiple i stride e)
-  where
-    from_quotient : (q : ℕ) → q * stride ≡ i → (i - 1) / stride * stride ≡ i - stride
-    from_quotient zero f = absurd (omega arith)
-    from_quotient (suc p) f =
-        let g : p * stride + (stride - 1) ≡ i - 1 = omega arith in
-        let h : (i - 1) / stride ≡ p = subst (λ z. z / stride ≡ p) g (div-mul-add p stride (stride - 1) (omega arith)) in
-        rw h (omega arith)
+between_multiples : (i stride : ℕ) → 1 ≤ stride → 1 ≤ i → ((i - 1) % stride + 1 ≡ stride → ⊥) → (i % stride ≡ (i - 1) % stride + 1) × (i / stride * stride ≡ (i - 1) / stride * stride)
+between_multiples i stride some more ne =
+    let quotient = (i - 1) / stride in
+    let rest = (i - 1) % stride + 1 in
+    let before = div-add-mod' (i - 1) stride in
+    let below = mod_below (i - 1) stride some in
+    let parts = div-add-mod' i stride in
+    let less : rest < stride = elim (cases_eq rest stride) [ inl is ↦ absurd (ne is) | inr other ↦ omega arith ] in
+    let whole : quotient * stride + rest ≡ i = omega arith in
+    let same : i / stride * stride ≡ quotient * stride = ap (λ q. q * stride) (subst (λ z. z / stride ≡ quotient) whole (div-mul-add quotient stride rest less)) in
+    (omega arith, same)
 
-pub between_multiples : (i stride : ℕ) → 1 ≤ stride → (i % stride ≡ 0 → ⊥) → (i - 1) / stride * stride ≡ i / stride * stride
-between_multiples i stride some ne =
-    let d = div-add-mod' i stride in
-    let b = mod_below i stride some in
-    let rest : 0 < i % stride = elim (cases_lt 0 (i % stride)) [ inl l ↦ l | inr g ↦ absurd (ne (omega arith)) ] in
-    let g : i / stride * stride + (i % stride - 1) ≡ i - 1 = omega arith in
-    let h : (i - 1) / stride ≡ i / stride = subst (λ z. z / stride ≡ i / stride) g (div-mul-add (i / stride) stride (i % stride - 1) (omega arith)) in
-    ap (λ q. q * stride) h
+-- the greatest multiple up to a number below the stride is 0
+multiple_below : (i stride : ℕ) → i < stride → i / stride * stride ≡ 0
+multiple_below i stride l =
+    let e : 0 * stride + i ≡ i = omega arith in
+    ap (λ q. q * stride) (subst (λ z. z / stride ≡ 0) e (div-mul-add 0 stride i l)) ∙ omega arith
 
--- the pointer of a member, where the first one points to itself
+-- the pointer of a member behind the first
 abbrev pub mark_before : ℕ → List ℕ → ℕ → Option ℕ
 mark_before stride members i = cond (i % stride == 0) (Some (get_or members (i - stride) 0)) None
 
--- the walk stands at member i, the last mark before it is known, and the members before it have their pointers
-pub record IsMarking (stride : ℕ) (members : List ℕ) (first i at last : ℕ) (old new : List (Option ℕ)) : Type 0 where
-  pub most : i ≤ length members
-  pub here : i < length members → at ≡ get_or members i 0
-  pub begins : i ≡ 0 → last ≡ first
-  pub follows : 0 < i → last ≡ get_or members ((i - 1) / stride * stride) 0
+-- The walk has passed `count` members, `since` of them behind the last mark. These have their pointers; the first one
+-- gets its own in the end.
+pub record IsMarking (stride : ℕ) (members : List ℕ) (count since last : ℕ) (old new : List (Option ℕ)) : Type 0 where
+  pub since_is : since ≡ (count - 1) % stride
+  pub last_is : last ≡ get_or members ((count - 1) / stride * stride) 0
   pub size : length new ≡ length old
-  pub done : (j : ℕ) → j < i → get_or new (get_or members j 0) None ≡ mark_before stride members j
-  pub left : (j : ℕ) → i ≤ j → j < length members → get_or new (get_or members j 0) None ≡ None
+  pub begins : get_or new (get_or members 0 0) None ≡ None
+  pub done : (j : ℕ) → 0 < j → j < count → get_or new (get_or members j 0) None ≡ mark_before stride members j
+  pub left : (j : ℕ) → count ≤ j → j < length members → get_or new (get_or members j 0) None ≡ None
   pub outside : (x : ℕ) → x < length old → has (λ x y. x == y) members x ≡ false → get_or new x None ≡ get_or old x None
 
 module _ (places : List ℕ) (stride first : ℕ) (members : List ℕ) (m : AreMembers places first members) (some : 1 ≤ stride) where
-  pub marking_first : (old : List (Option ℕ)) → ((i : ℕ) → i < length members → get_or old (get_or members i 0) None ≡ None) → IsMarking stride members first 0 first first old old
-  marking_first old fresh = record {
-    most = omega arith;
-    here = λ l. sym m.begins;
-    begins = λ e. refl;
-    follows = λ h. absurd (omega arith);
-    size = refl;
-    done = λ j h. absurd (omega arith);
-    left = λ j h l. fresh j l;
-    outside = λ x h off. refl;
-  }
-
-  next_member : (i at after : ℕ) → i + 1 < length members → at ≡ get_or members i 0 → after ≡ get_or places at 0 → after ≡ get_or members (i + 1) 0
-  next_member i at after l here e = e ∙ ap (λ z. get_or places z 0) here ∙ m.follows i l
-
-  pub at_within : (i at last : ℕ) (old new : List (Option ℕ)) → IsMarking stride members first i at last old new → i < length members → at < length places
-  at_within i at last old new k l = omega (arith, k.here l, m.within i l)
+  pub marking_first : (old : List (Option ℕ)) → ((i : ℕ) → i < length members → get_or old (get_or members i 0) None ≡ None) → IsMarking stride members 1 0 first old old
+  marking_first old fresh =
+      let d = div-add-mod' 0 stride in
+      let at_start : 0 / stride * stride ≡ 0 = omega arith in
+      record {
+        since_is = omega arith;
+        last_is = sym m.begins ∙ ap (λ z. get_or members z 0) (sym at_start);
+        size = refl;
+        begins = fresh 0 m.some;
+        done = λ j more h. absurd (omega arith);
+        left = λ j h l. fresh j l;
+        outside = λ x h off. refl;
+      }
 
   -- a member between two marks is passed
-  pub marking_pass : (i at last after : ℕ) (old new : List (Option ℕ)) → IsMarking stride members first i at last old new → i < length members → (i % stride ≡ 0 → ⊥) → after ≡ get_or places at 0
-      → IsMarking stride members first (i + 1) after last old new
-  marking_pass i at last after old new k l ne e =
-      let at_zero : (0 < i → ⊥) → i % stride ≡ 0 = λ none. (let z : i ≡ 0 = omega (arith, cases_lt 0 i) in rw z (zero_mod stride some)) in
-      let more : 0 < i = elim (cases_lt 0 i) [ inl h ↦ h | inr h ↦ absurd (ne (at_zero (λ b. omega arith))) ] in
-      let i_is : i + 1 - 1 ≡ i = omega arith in
+  pub marking_pass : (count since last : ℕ) (old new : List (Option ℕ)) → IsMarking stride members count since last old new → 1 ≤ count → count < length members → (since + 1 ≡ stride → ⊥)
+      → IsMarking stride members (count + 1) (since + 1) last old new
+  marking_pass count since last old new k more l ne =
+      let next = between_multiples count stride some more (λ e. ne (ap (λ z. z + 1) k.since_is ∙ e)) in
+      let none : count % stride ≡ 0 → ⊥ = λ e. omega (arith, next.0) in
+      let count_is : count + 1 - 1 ≡ count = omega arith in
       record {
-        most = omega arith;
-        here = λ h. next_member i at after h (k.here l) e;
-        begins = λ z. absurd (omega arith);
-        follows = λ h. k.follows more ∙ ap (λ z. get_or members z 0) (between_multiples i stride some ne ∙ ap (λ z. z / stride * stride) (sym i_is));
+        since_is = ap (λ z. z + 1) k.since_is ∙ sym next.0 ∙ ap (λ z. z % stride) (sym count_is);
+        last_is = k.last_is ∙ ap (λ z. get_or members z 0) (sym next.1 ∙ ap (λ z. z / stride * stride) (sym count_is));
         size = k.size;
-        done = λ j h. elim (cases_lt j i) [
-          | inl less ↦ k.done j less
-          | inr g ↦ (let is : j ≡ i = omega arith in k.left j g (omega arith) ∙ sym (ap (λ b. cond b (Some (get_or members (j - stride) 0)) None) (subst (λ z. (z % stride == 0) ≡ false) (sym is) (ne_eqb (i % stride) 0 ne))))
+        begins = k.begins;
+        done = λ j from h. elim (cases_lt j count) [
+          | inl less ↦ k.done j from less
+          | inr g ↦ (let is : j ≡ count = omega arith in k.left j g (omega arith) ∙ sym (ap (λ b. cond b (Some (get_or members (j - stride) 0)) None) (subst (λ z. (z % stride == 0) ≡ false) (sym is) (ne_eqb (count % stride) 0 none))))
         ];
         left = λ j h q. k.left j (omega arith) q;
         outside = k.outside;
       }
-    where
-      zero_mod : (s : ℕ) → 1 ≤ s → 0 % s ≡ 0
-      zero_mod s h = let d = div-add-mod' 0 s in omega arith
 
   -- a member is marked
-  pub marking_mark : (i at last after : ℕ) (old new : List (Option ℕ)) → length old ≡ length places → IsMarking stride members first i at last old new → i < length members → i % stride ≡ 0 → after ≡ get_or places at 0
-      → IsMarking stride members first (i + 1) after at old (set new at (Some last))
-  marking_mark i at last after old new size k l e step =
-      let here = k.here l in
-      let w = m.within i l in
-      let i_is : i + 1 - 1 ≡ i = omega arith in
-      let pointer : last ≡ get_or members (i - stride) 0 = elim (cases_lt 0 i) [
-        | inl more ↦ k.follows more ∙ ap (λ z. get_or members z 0) (before_multiple i stride some e more)
-        | inr none ↦ k.begins (omega arith) ∙ sym m.begins ∙ ap (λ z. get_or members z 0) (omega arith)
-      ] in
-      let other : (j : ℕ) → j < length members → (j ≡ i → ⊥) → get_or (set new at (Some last)) (get_or members j 0) None ≡ get_or new (get_or members j 0) None =
-      λ j q ne. get_or-set_other new at (get_or members j 0) (Some last) None (λ is. ne (m.once j i q l (is ∙ here))) in
+  pub marking_mark : (count since at last : ℕ) (old new : List (Option ℕ)) → length old ≡ length places → IsMarking stride members count since last old new → 1 ≤ count → count < length members → since + 1 ≡ stride → at ≡ get_or members count 0
+      → IsMarking stride members (count + 1) 0 at old (set new at (Some last))
+  marking_mark count since at last old new size k more l full here =
+      let w = m.within count l in
+      let multiple = multiple_after count stride some more (ap (λ z. z + 1) (sym k.since_is) ∙ full) in
+      let before = div-add-mod' (count - 1) stride in
+      let count_is : count + 1 - 1 ≡ count = omega arith in
+      let pointer : last ≡ get_or members (count - stride) 0 = k.last_is ∙ ap (λ z. get_or members z 0) (omega (arith, k.since_is)) in
+      let other : (j : ℕ) → j < length members → (j ≡ count → ⊥) → get_or (set new at (Some last)) (get_or members j 0) None ≡ get_or new (get_or members j 0) None =
+      λ j q ne. get_or-set_other new at (get_or members j 0) (Some last) None (λ is. ne (m.once j count q l (is ∙ here))) in
       record {
-        most = omega arith;
-        here = λ h. next_member i at after h here step;
-        begins = λ z. absurd (omega arith);
-        follows = λ h. here ∙ ap (λ z. get_or members z 0) (sym (at_multiple i stride e) ∙ ap (λ z. z / stride * stride) (sym i_is));
+        since_is = sym multiple.0 ∙ ap (λ z. z % stride) (sym count_is);
+        last_is = here ∙ ap (λ z. get_or members z 0) (sym multiple.1 ∙ ap (λ z. z / stride * stride) (sym count_is));
         size = length-set new at (Some last) ∙ k.size;
-        done = λ j h. elim (cases_eq j i) [
+        begins = other 0 m.some (λ is. absurd (omega arith)) ∙ k.begins;
+        done = λ j from h. elim (cases_eq j count) [
           | inl is ↦
               subst (λ z. get_or (set new at (Some last)) z None ≡ mark_before stride members j) (here ∙ ap (λ z. get_or members z 0) (sym is))
               (get_or-set_same new at (Some last) None (omega (arith, k.size))
               ∙ ap (λ z. Some z) (pointer ∙ ap (λ z. get_or members (z - stride) 0) (sym is))
-              ∙ sym (ap (λ b. cond b (Some (get_or members (j - stride) 0)) None) (subst (λ z. (z % stride == 0) ≡ true) (sym is) (eq-eqb (i % stride) 0 e))))
-          | inr ne ↦ other j (omega arith) ne ∙ k.done j (omega arith)
+              ∙ sym (ap (λ b. cond b (Some (get_or members (j - stride) 0)) None) (subst (λ z. (z % stride == 0) ≡ true) (sym is) (eq-eqb (count % stride) 0 multiple.0))))
+          | inr ne ↦ other j (omega arith) ne ∙ k.done j from (omega arith)
         ];
         left = λ j h q. other j q (λ is. absurd (omega arith)) ∙ k.left j (omega arith) q;
-        outside = λ x h off. get_or-set_other new at x (Some last) None (λ is. both_ways _ off (subst (λ z. has (λ x y. x == y) members z ≡ true) (sym (is ∙ here)) (has_place members i l))) ∙ k.outside x h off;
+        outside = λ x h off. get_or-set_other new at x (Some last) None (λ is. both_ways _ off (subst (λ z. has (λ x y. x == y) members z ≡ true) (sym (is ∙ here)) (has_place members count l))) ∙ k.outside x h off;
       }
 
-  -- at the end the first one gets the last mark
-  pub are_marked : (i at last : ℕ) (old new : List (Option ℕ)) → length old ≡ length places → IsMarking stride members first i at last old new → i ≡ length members → stride < length members
+  last_of_all : (count since last : ℕ) (old new : List (Option ℕ)) → IsMarking stride members count since last old new → count ≡ length members → last ≡ get_or members ((length members - 1) / stride * stride) 0
+  last_of_all count since last old new k all = subst (λ n. last ≡ get_or members ((n - 1) / stride * stride) 0) all k.last_is
+
+  -- a cycle has a second mark where it is long
+  long_of : (count since last : ℕ) (old new : List (Option ℕ)) → IsMarking stride members count since last old new → count ≡ length members → (last ≡ first → ⊥) → stride < length members
+  long_of count since last old new k all ne = elim (cases_lt stride (length members)) [
+    | inl long ↦ long
+    | inr few ↦ (let none = multiple_below (length members - 1) stride (omega (arith, m.some)) in absurd (ne (last_of_all count since last old new k all ∙ ap (λ z. get_or members z 0) none ∙ m.begins)))
+  ]
+
+  few_of : (count since last : ℕ) (old new : List (Option ℕ)) → IsMarking stride members count since last old new → count ≡ length members → last ≡ first → length members ≤ stride
+  few_of count since last old new k all is = elim (cases_lt stride (length members)) [
+    | inl long ↦
+        let place = (length members - 1) / stride * stride in
+        let d = div-add-mod' (length members - 1) stride in
+        let b = mod_below (length members - 1) stride some in
+        let none = m.once place 0 (omega arith) m.some (sym (last_of_all count since last old new k all) ∙ is ∙ sym m.begins) in
+        absurd (omega arith)
+    | inr few ↦ few
+  ]
+
+  -- at the end of a long cycle the first one gets the last mark
+  pub are_marked : (count since last : ℕ) (old new : List (Option ℕ)) → length old ≡ length places → IsMarking stride members count since last old new → count ≡ length members → (last ≡ first → ⊥)
       → HavePointers stride members old (set new first (Some last))
   unfolding mark_at
-  are_marked i at last old new size k all long =
+  are_marked count since last old new size k all ne =
       let begins = m.begins in
       let w = m.within 0 m.some in
-      let l = lt-ltb stride (length members) long in
+      let l = lt-ltb stride (length members) (long_of count since last old new k all ne) in
       record {
         size = length-set new first (Some last) ∙ k.size;
         inside = λ j h. elim (cases_eq j 0) [
           | inl z ↦
               let zero_is : 0 % stride ≡ 0 = (let d = div-add-mod' 0 stride in omega arith) in
-              let last_is : last ≡ get_or members ((length members - 1) / stride * stride) 0 = subst (λ n. last ≡ get_or members ((n - 1) / stride * stride) 0) all (k.follows (omega (arith, m.some))) in
               let wrote : get_or (set new first (Some last)) (get_or members 0 0) None ≡ Some last = subst (λ x. get_or (set new first (Some last)) x None ≡ Some last) (sym begins) (get_or-set_same new first (Some last) None (omega (arith, k.size))) in
-              rw z (rw l (rw zero_is (wrote ∙ ap (λ x. Some x) last_is)))
-          | inr ne ↦
-              let not_zero : (j == 0) ≡ false = ne_eqb j 0 ne in
-              get_or-set_other new first (get_or members j 0) (Some last) None (λ is. ne (m.once j 0 h m.some (is ∙ sym begins)))
-              ∙ k.done j (omega arith)
+              rw z (rw l (rw zero_is (wrote ∙ ap (λ x. Some x) (last_of_all count since last old new k all))))
+          | inr other ↦
+              let not_zero : (j == 0) ≡ false = ne_eqb j 0 other in
+              get_or-set_other new first (get_or members j 0) (Some last) None (λ is. other (m.once j 0 h m.some (is ∙ sym begins)))
+              ∙ k.done j (omega arith) (omega arith)
               ∙ rw l (rw not_zero refl)
         ];
         outside = λ x h off. get_or-set_other new first x (Some last) None (λ is. both_ways _ off (subst (λ z. has (λ x y. x == y) members z ≡ true) (begins ∙ sym is) (has_place members 0 m.some))) ∙ k.outside x h off;
       }
 
--- a cycle of few members has no mark
-pub none_marked : (stride : ℕ) (members : List ℕ) (marks : List (Option ℕ)) → ((i : ℕ) → i < length members → get_or marks (get_or members i 0) None ≡ None) → length members ≤ stride → HavePointers stride members marks marks
-unfolding mark_at
-none_marked stride members marks fresh few = record {
-  size = refl;
-  inside = λ i h. fresh i h ∙ rw (le-ltb stride (length members) few) refl;
-  outside = λ x h off. refl;
-}
+  -- a cycle of few members has no mark
+  pub none_marked : (count since last : ℕ) (old new : List (Option ℕ)) → IsMarking stride members count since last old new → count ≡ length members → last ≡ first → HavePointers stride members old new
+  unfolding mark_at
+  none_marked count since last old new k all is =
+      let few = few_of count since last old new k all is in
+      let short = le-ltb stride (length members) few in
+      record {
+        size = k.size;
+        inside = λ j h. elim (cases_eq j 0) [
+          | inl z ↦ rw z (rw short k.begins)
+          | inr other ↦
+              let d = div-add-mod' j stride in
+              let none = multiple_below j stride (omega arith) in
+              k.done j (omega arith) (omega arith)
+              ∙ ap (λ b. cond b (Some (get_or members (j - stride) 0)) None) (ne_eqb (j % stride) 0 (λ e. other (omega arith)))
+              ∙ rw short refl
+        ];
+        outside = k.outside;
+      }

@@ -1,12 +1,13 @@
 -- A walk along a cycle that visits its members.
-use Rattle.std.proofs.Common.{◌≡◌, ℕ, ◌+◌, ◌<◌, ◌≤◌, inl, inr, Bool, true, false, ◌==◌, List, length, get_or, refl, sym, ap, subst, ◌∙◌, arith}
+use Rattle.std.proofs.Common.{◌≡◌, ℕ, ◌+◌, ◌<◌, ◌≤◌, inl, inr, Bool, true, false, ◌==◌, cond, List, length, get_or, refl, sym, ap, subst, ◌∙◌, arith, eq-eqb}
+use Rattle.std.specs.List.{position_or_len}
 use Rattle.std.proofs.Math.ListN.{set, length-set}
-use Rattle.std.proofs.lemmas.Bool.{both_ways, cases_eq, cases_lt}
+use Rattle.std.proofs.lemmas.Bool.{both_ways, cases_eq, cases_lt, ne_eqb}
 use Rattle.std.proofs.lemmas.List.{get_or-set_same, get_or-set_other}
 use Rattle.orbits.specs.Points.{has}
 use Rattle.orbits.proofs.Numbers.{has_place}
-use Rattle.id_names.specs.Cycles.{AreVisited}
 use Rattle.id_names.proofs.Members.{AreMembers}
+use Rattle.id_names.proofs.Sweeping.{position_is}
 
 -- the first `count` members are visited, and the walk stands at the next one, or at the first again
 pub record IsVisiting (members : List ℕ) (first count at : ℕ) (old new : List Bool) : Type 0 where
@@ -17,6 +18,10 @@ pub record IsVisiting (members : List ℕ) (first count at : ℕ) (old new : Lis
   pub size : length new ≡ length old
   pub inside : (i : ℕ) → i < count → get_or new (get_or members i 0) false ≡ true
   pub outside : (x : ℕ) → x < length old → has (λ x y. x == y) members x ≡ false → get_or new x false ≡ get_or old x false
+
+-- how many members the walk has passed, by the number where it stands
+abbrev pub passed : List ℕ → ℕ → ℕ → ℕ
+passed members first at = cond (at == first) (length members) (position_or_len (λ x. x == at) members)
 
 module _ (places : List ℕ) (first : ℕ) (members : List ℕ) (m : AreMembers places first members) where
   -- a member further is visited
@@ -78,12 +83,14 @@ module _ (places : List ℕ) (first : ℕ) (members : List ℕ) (m : AreMembers 
     | inr more ↦ omega (arith, v.most)
   ]
 
-  pub are_visited : (count at : ℕ) (old new : List Bool) → IsVisiting members first count at old new → at ≡ first → AreVisited members old new
-  are_visited count at old new v is = record {
-    size = v.size;
-    inside = λ i l. v.inside i (let all = visited_all count at old new v is in omega arith);
-    outside = v.outside;
-  }
+  -- so many are passed where the walk stands
+  pub passed_is : (count at : ℕ) (old new : List Bool) → IsVisiting members first count at old new → passed members first at ≡ count
+  passed_is count at old new v = elim (cases_eq at first) [
+    | inl is ↦ rw (eq-eqb at first is) (sym (visited_all count at old new v is))
+    | inr ne ↦
+        let l = not_back count at old new v ne in
+        rw (ne_eqb at first ne) (rw (v.here l) (position_is places first members m count l))
+  ]
 
   pub member_within : (count at : ℕ) (old new : List Bool) → IsVisiting members first count at old new → (at ≡ first → ⊥) → at < length places
   member_within count at old new v ne =

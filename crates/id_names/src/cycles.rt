@@ -5,51 +5,7 @@ ghost use Rattle.id_names.specs.Cycles.{IsPlacePermutation, HavePointers, AreVis
 
 use std::alloc::{AllocError, Global};
 
-/// Visits the members of a cycle and gives how many there are.
-fn visit(places: &[u32], first: u32, visited: &mut [bool]) -> u32
-    requires few { length places.now ≤ 16777216 }
-    requires places { IsPlacePermutation places.now }
-    requires first { first < length places.now }
-    requires size { length visited.old ≡ length places.now }
-    ensures count { result ≡ length (cycle places.now first) }
-    ensures visited { AreVisited (cycle places.now first) visited.old visited.new }
-{
-    visited[first as usize] = true;
-    let mut count = 1;
-    let mut member = places[first as usize];
-    while member != first {
-        visited[member as usize] = true;
-        count += 1;
-        member = places[member as usize];
-    }
-    count
-}
-
-/// Marks a cycle of so many members that has no mark yet.
-fn mark(places: &[u32], stride: u32, first: u32, count: u32, marks: &mut [Option<u32>])
-    requires places { IsPlacePermutation places.now }
-    requires first { first < length places.now }
-    requires some { 1 ≤ stride }
-    requires long { stride < count }
-    requires count { count ≡ length (cycle places.now first) }
-    requires size { length marks.old ≡ length places.now }
-    requires fresh { (i : ℕ) → i < length (cycle places.now first)
-        → slice_index_or marks.old (slice_index (cycle places.now first) i) None ≡ None }
-    ensures { HavePointers stride (cycle places.now first) marks.old marks.new }
-{
-    let mut last = first;
-    let mut member = first;
-    for i in 0..count {
-        if i % stride == 0 {
-            marks[member as usize] = Some(last);
-            last = member;
-        }
-        member = places[member as usize];
-    }
-    marks[first as usize] = Some(last);
-}
-
-/// Visits a cycle, and marks it where it is long.
+/// Visits a cycle, and marks it where it is long, in one walk.
 fn visit_and_mark(
     places: &[u32],
     stride: u32,
@@ -68,13 +24,27 @@ fn visit_and_mark(
     ensures visited { AreVisited (cycle places.now first) visited.old visited.new }
     ensures marks { HavePointers stride (cycle places.now first) marks.old marks.new }
 {
-    let count = visit(places, first, visited);
-    if count > stride {
-        mark(places, stride, first, count, marks);
+    visited[first as usize] = true;
+    let mut last = first;
+    let mut since = 0;
+    let mut member = places[first as usize];
+    while member != first {
+        visited[member as usize] = true;
+        since += 1;
+        if since == stride {
+            marks[member as usize] = Some(last);
+            last = member;
+            since = 0;
+        }
+        member = places[member as usize];
+    }
+    // Where another member is marked the cycle is long, and its first one is marked too.
+    if last != first {
+        marks[first as usize] = Some(last);
     }
 }
 
-/// The pointers back of the marked numbers, and none for the others: one sweep, which follows each cycle at most twice.
+/// The pointers back of the marked numbers, and none for the others: one sweep, which follows each cycle once.
 pub(crate) fn cycle_marks(
     alloc: Global,
     places: &[u32],
