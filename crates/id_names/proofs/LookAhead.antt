@@ -1,9 +1,9 @@
 -- Numbers that are looked up ahead.
-use Rattle.std.proofs.Common.{◌≡◌, ◌≢◌, ℕ, zero, suc, ◌<◌, List, map, length, get_or, refl, ap, sym, ◌∙◌, subst, arith, Option, Some, None}
+use Rattle.std.proofs.Common.{◌≡◌, ◌≢◌, ℕ, zero, suc, ◌<◌, List, map, length, get_or, refl, ap, sym, ◌∙◌, arith, Option, Some, None}
 use Rattle.std.specs.Prelude.{IfSome, MatchOption}
 use Rattle.std.proofs.lemmas.List.{get_or-map, length-map}
 use Rattle.id_names.specs.Names.{number_of}
-use Rattle.id_names.specs.RisingNames.{RisingNames, ids_by_number, id_at, count, number_at}
+use Rattle.id_names.specs.RisingNames.{RisingNames, ids_by_number, id_at, number_at}
 use Rattle.id_names.specs.Faults.{name_fault}
 use Rattle.id_names.specs.Known.{AreKnown}
 use Rattle.id_names.specs.declared.known.KnownNumber.{KnownNumber}

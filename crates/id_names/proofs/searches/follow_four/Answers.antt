@@ -1,4 +1,4 @@
-use Rattle.std.proofs.Common.{rules, ◌≡◌, ℕ, ◌+◌, ◌-◌, List, [], ◌∷◌, map, length, get_or, refl, ap, sym, ◌∙◌, subst, arith, Option, Some, None}
+use Rattle.std.proofs.Common.{rules, ◌≡◌, ℕ, ◌+◌, ◌-◌, List, [], ◌∷◌, map, length, get_or, refl, ◌∙◌, subst, arith, Option, None}
 use Rattle.id_names.specs.Searches.{number_for, found_within}
 use Rattle.id_names.specs.declared.inverse.Inverse.{Inverse}
 use Rattle.id_names.specs.declared.searches.Search.{Search}

@@ -1,4 +1,4 @@
-use Rattle.std.proofs.Common.{◌≡◌, ℕ, ◌+◌, ◌-◌, ◌<◌, ◌≤◌, Bool, true, false, ◌&&◌, length, get_or, refl, ap, sym, ◌∙◌, subst, arith, Some, None, ◌≢◌}
+use Rattle.std.proofs.Common.{◌≡◌, ℕ, ◌+◌, ◌-◌, ◌<◌, ◌≤◌, Bool, true, false, length, get_or, refl, ap, sym, ◌∙◌, subst, arith, Some, None, ◌≢◌}
 use Rattle.std.specs.Prelude.{if◌then◌else◌}
 use Rattle.bit_words.specs.Digits.{digits}
 use Rattle.bit_words.specs.PackedView.{fields_of}

@@ -1,4 +1,4 @@
-use Rattle.std.proofs.Common.{◌≡◌, ◌≢◌, ℕ, ◌+◌, ◌-◌, ◌<◌, Bool, true, false, ◌&&◌, length, get_or, refl, ap, sym, ◌∙◌, subst, arith}
+use Rattle.std.proofs.Common.{◌≡◌, ◌≢◌, ◌+◌, ◌-◌, true, false, ◌&&◌, get_or, refl, ap, sym, ◌∙◌, subst, arith}
 use Rattle.bit_words.specs.PackedView.{fields_of}
 use Rattle.rank_select.specs.RankView.{counted}
 use Rattle.id_names.specs.Inverse.{walk, back_from}
