@@ -1,11 +1,12 @@
 -- What is kept of the front of a line decides on the lines that end behind it.
-use Rattle.std.proofs.Common.{◌≡◌, ℕ, ◌+◌, List, [], ◌∷◌, ◌++◌, flat_map, true, false, refl, sym, ap, ◌∙◌, arith}
+use Rattle.std.proofs.Common.{◌≡◌, ℕ, ◌+◌, ◌*◌, List, [], ◌∷◌, ◌++◌, flat_map, true, false, refl, sym, ap, ◌∙◌, arith}
 use Rattle.std.specs.Prelude.{◌==◌, if◌then◌else◌}
 use Rattle.std.proofs.lemmas.List.{take-take}
 use Rattle.topo_base.specs.Script.{line}
+use Rattle.bit_words.specs.Digits.{digits}
 use Rattle.plane_model.specs.PlaneMap.{PlaneMap}
+use Rattle.plane_model.specs.Consistent.{size}
 use Rattle.plane_model.specs.Answers.{answer, answer_to, line_walked, items_listed}
-use Rattle.navigate.specs.Bound.{most_words}
 use Rattle.topo_serve.specs.Pieces.{ended_behind, open_behind, last_line, cut}
 use Rattle.topo_serve.specs.Serving.{over_lines, words_of_line, found_by_reads, found_in}
 use Rattle.topo_serve.proofs.Cutting.{same_line, cut_more}
@@ -38,7 +39,7 @@ over_last_kept f same [] = refl
 over_last_kept f same (x ∷ xs) = ap (λ z. z + 0) (same (cut (x ∷ xs)) (x ∷ xs) (cut_twice (x ∷ xs)))
 
 words_same : (m : PlaneMap) (x y : List ℕ) → cut x ≡ cut y → words_of_line m x ≡ words_of_line m y
-words_same m x y e = ap (λ l. most_words m (line_walked m l) (items_listed m l)) (same_cut x y e)
+words_same m x y e = ap (λ l. 256 * digits (size m) * (line_walked m l + items_listed m l + 2)) (same_cut x y e)
 
 found_same : (m : PlaneMap) (x y : List ℕ) → cut x ≡ cut y → found_by_reads m x ≡ found_by_reads m y
 found_same m x y e = ap (found_in m) (same_cut x y e)

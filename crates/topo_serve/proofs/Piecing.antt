@@ -1,6 +1,6 @@
 -- Answering the lines that end in a piece, one after the other.
-use Rattle.std.proofs.Common.{◌≡◌, ℕ, zero, suc, ◌+◌, ◌-◌, ◌*◌, ◌≤◌, Bool, true, false, List, [], ◌∷◌, ◌++◌, flat_map, length, Result, Ok, Err, refl, sym, ap, ◌∙◌, append_assoc, append-nil, arith}
-use Rattle.std.specs.Prelude.{IsErrAnd, ◌==◌}
+use Rattle.std.proofs.Common.{◌≡◌, ℕ, zero, suc, ◌+◌, ◌-◌, ◌*◌, ◌≤◌, true, false, List, [], ◌∷◌, ◌++◌, flat_map, length, Result, Ok, Err, refl, sym, ap, ◌∙◌, append_assoc, append-nil, arith}
+use Rattle.std.specs.Prelude.{IsErrAnd, ◌==◌, if◌then◌else◌}
 use Rattle.std.proofs.Math.Nat.{mul-le-mul_right}
 use Rattle.bit_words.specs.Digits.{digits}
 use Rattle.plane_model.specs.PlaneMap.{PlaneMap}
@@ -97,7 +97,9 @@ paid_more (suc n) a w all s sum t u e h k = let less : suc n - 1 ≡ n = omega a
 pub as_many : (front other bytes : List ℕ) → length (ended_behind front bytes) ≡ length (ended_behind other bytes)
 unfolding ended_behind
 as_many front other [] = refl
-as_many front other (b ∷ bytes) = elim (b == 10) [ true ↦ refl | false ↦ as_many (front ++ b ∷ []) (other ++ b ∷ []) bytes ]
+as_many front other (b ∷ bytes) =
+    elim (b == 10) as (λ v. length (if v then front ∷ ended_behind [] bytes else ended_behind (front ++ b ∷ []) bytes) ≡ length (if v then other ∷ ended_behind [] bytes else ended_behind (other ++ b ∷ []) bytes))
+    [ true ↦ refl | false ↦ as_many (front ++ b ∷ []) (other ++ b ∷ []) bytes ]
 
 -- lines are looked up ahead
 pub answered_ahead : (m : PlaneMap) (start piece front rest : List ℕ) (s t u ahead later : ℕ) (a b : Out) → IsAnswered m start piece front rest s t ahead a b
@@ -164,7 +166,7 @@ pub most_all : (m : PlaneMap) (start piece front rest : List ℕ) (s t ahead : �
     → t ≤ s + over_lines (words_of_line m) (ended_behind start piece)
 most_all m start piece front rest s t ahead a b p e =
     let none : ahead ≡ 0 = let count = ap length e in omega (arith, p.within, count) in
-    let nothing : ahead * words_ahead m ≡ 0 = ap (λ n. n * words_ahead m) none in
+    let nothing : ahead * words_ahead m ≡ 0 = ap (λ n. n * words_ahead m) none ∙ omega arith in
     rw (done_all m start piece front rest s t ahead a b p e) (omega (arith, p.most, nothing))
 
 -- the last line, unless it is empty

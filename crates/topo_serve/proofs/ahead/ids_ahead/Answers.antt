@@ -1,5 +1,14 @@
-use Rattle.std.proofs.Common.{◌≡◌, ◌+◌, [], ◌∷◌, ◌++◌, length, length-drop, take, drop, suc, ap, arith, add-one, rules}
+use Rattle.std.proofs.Common.{[], length, length-drop, suc, ap, arith, add-one}
 use Rattle.std.proofs.lemmas.List.{take_rest}
-use Rattle.topo_serve.specs.Pieces.{ended_behind}
 use Rattle.topo_serve.proofs.Ending.{first_ended}
 use Rattle.topo_serve.proofs.ahead.ids_ahead.Goals as goal
+
+pub loop-place-preserved : goal.loop-place-preserved
+loop-place-preserved c =
+    let rest = c.loop-place.rest.now in
+    let end = c.in_ok-end.end in
+    let one_more = ap length (first_ended [] rest end c.in_ok-end.ensures.0 c.in_ok-end.ensures.1 c.in_ok-end.ensures.2) in
+    record {
+      ended = rw (take_rest, add-one end) (omega (arith, one_more, c.loop-place.invariant.ended));
+      within = rw (take_rest, add-one end) (omega (arith, length-drop (suc end) rest, c.loop-place.invariant.within));
+    }

@@ -1,5 +1,7 @@
 use Rattle.std.proofs.Common.{◌≡◌, ◌-◌, [], length}
 use Rattle.scratch_region.specs.Marks.{room_of, IsEmpty}
+use Rattle.pemb_file.specs.OpenFile.{contents_of_file}
+use Rattle.pemb_file.specs.Served.{contents_of_view}
 use Rattle.navigate.specs.Bound.{served_map}
 use Rattle.topo_serve.specs.Gathering.{out_at}
 use Rattle.topo_serve.specs.Serving.{most_bytes}
@@ -15,6 +17,7 @@ invariant-loop-count g l =
     × IsEmpty l.marks
     × (g.S.Source.faults l.script ≡ g.S.Source.faults l.initial.script)
     × (length l.buffer ≡ 65536)
+    × (contents_of_file l.file ≡ contents_of_view l.served)
 
 abbrev pub decreases-loop-count : goal.decreases-loop-count
 decreases-loop-count g l = most_bytes - l.taken
