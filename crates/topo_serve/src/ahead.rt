@@ -1,6 +1,6 @@
 //! The lines to come, whose ids are looked up together.
 
-ghost use Rattle.std.specs.Prelude.{ℕ, ◌≡◌, ◌<◌, ◌≤◌, ◌+◌, ◌*◌, List, [], length, IsSome};
+ghost use Rattle.std.specs.Prelude.{ℕ, ◌≡◌, ◌<◌, ◌≤◌, ◌+◌, ◌*◌, List, [], length, IsSome, IsNone};
 ghost use Rattle.pemb_file.specs.OpenFile.{contents_of_file};
 ghost use Rattle.navigate.specs.Bound.{map_with, words_ahead};
 ghost use Rattle.topo_serve.specs.Pieces.{ended_behind};
@@ -32,7 +32,8 @@ fn put_down(ids: &mut IdsAhead, place: usize, query: Query)
 
 /// The ids that the first four lines name. None where fewer end in these bytes.
 fn ids_ahead(script: &[u8]) -> Option<IdsAhead>
-    ensures { IsSome result → 4 ≤ length (ended_behind [] script.now) }
+    ensures some { IsSome result → 4 ≤ length (ended_behind [] script.now) }
+    ensures none { IsNone result → length (ended_behind [] script.now) < 4 }
 {
     let mut ids = IdsAhead {
         nodes: [None; 4],
@@ -58,6 +59,7 @@ pub(crate) fn keep_ahead<C: Ledger>(
 ) -> usize
     ensures contents { contents_of_file file.new ≡ contents_of_file file.old }
     ensures within { lines ≤ length (ended_behind [] script.now) → result ≤ length (ended_behind [] script.now) }
+    ensures none { result ≡ 0 → length (ended_behind [] script.now) < 4 }
     ensures grows { steps.old ≤ steps.new }
     ensures paid { steps.new + lines * words_ahead (map_with (contents_of_file file.old))
         ≤ steps.old + result * words_ahead (map_with (contents_of_file file.old)) }
