@@ -1,8 +1,8 @@
 -- What a sound code gives the calls of its view.
 use Rattle.std.specs.Prelude.{option_map, unwrap_or, if◌then◌else◌, IfSome, IsNone, ◌↔◌}
 use Rattle.std.specs.Option.{option_and_then}
-use Rattle.std.proofs.Common.{◌≡◌, ℕ, zero, suc, ◌+◌, ◌-◌, ◌<◌, ◌≤◌, Bool, true, false, List, length, refl, ap, sym, ◌∙◌, arith, subst, Option, Some, None}
-use Rattle.std.proofs.lemmas.Bool.{lt-ltb, le-ltb}
+use Rattle.std.proofs.Common.{◌≡◌, ℕ, zero, suc, ◌+◌, ◌-◌, ◌*◌, ◌<◌, ◌≤◌, inl, inr, Bool, true, false, List, length, refl, ap, sym, ◌∙◌, arith, subst, Option, Some, None}
+use Rattle.std.proofs.lemmas.Bool.{lt-ltb, le-ltb, cases_lt}
 use Rattle.bit_words.specs.Bits.{rank, select, IsSelected}
 use Rattle.bit_words.specs.Digits.{digits}
 use Rattle.bit_words.proofs.DigitLaws.{digits-halved, digits-mono}
@@ -65,16 +65,33 @@ module _ (c : Code) (h : is_sound c ≡ true) where
   pub mate_within : (p : ℕ) → p < length c.a → mate c p < length c.a
   mate_within p l = (laws c (sound_parts c h) p l).within
 
-  -- each component has a position
-  pub starts_above : (j : ℕ) → j ≤ component_count c → j ≤ start_of c j
+  -- each component has two positions, those of an edge
+  two_positions : (j : ℕ) → j < component_count c → start_of c j + 2 ≤ end_of c j
+  two_positions j l =
+      let s = sound_parts c h in
+      let up = rises c s.laid j l in
+      let in_all = start_within c s.laid (j + 1) (omega (arith, l)) in
+      let p_in : start_of c j < length c.a = omega (arith, up, in_all) in
+      let m = laws c s (start_of c j) p_in in
+      let i = in_one c s (mate c (start_of c j)) m.within in
+      let same : i.0 ≡ j = sym i.1.is ∙ m.component ∙ is_component c s (start_of c j) j l (omega arith) up in
+      let from : start_of c j ≤ mate c (start_of c j) = subst (λ x. start_of c x ≤ mate c (start_of c j)) same i.1.from in
+      let to : mate c (start_of c j) < end_of c j = subst (λ x. mate c (start_of c j) < end_of c x) same i.1.to in
+      let apart : (mate c (start_of c j) ≡ start_of c j) → ⊥ = m.other in
+      elim (cases_lt (start_of c j) (mate c (start_of c j))) [
+        | inl after ↦ omega (arith, after, to)
+        | inr not_after ↦ absurd (apart (omega (arith, from, not_after)))
+      ]
+
+  pub starts_above : (j : ℕ) → j ≤ component_count c → 2 * j ≤ start_of c j
   starts_above zero l = omega arith
   starts_above (suc j) l =
       let less = starts_above j (omega arith) in
-      let up = rises c (sound_parts c h).laid j (omega arith) in
+      let up = two_positions j (omega arith) in
       let e : start_of c (suc j) ≡ start_of c (j + 1) = ap (start_of c) (omega arith) in
       omega (arith, less, up, e)
 
-  pub few_components : component_count c ≤ length c.a
+  pub few_components : 2 * component_count c ≤ length c.a
   few_components =
       let k = component_count c in
       let up = starts_above k (omega arith) in

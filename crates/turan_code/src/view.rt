@@ -204,12 +204,12 @@ impl<'a> TuranView<'a> {
 
     /// The component that position `p` is in, by halving.
     #[tactic(auto, using(crate::proofs::Views::halving))]
-    fn component<C: Ledger>(&self, p: usize, steps: &mut Steps<C>) -> usize
+    fn component_by_halving<C: Ledger>(&self, p: usize, steps: &mut Steps<C>) -> usize
         requires { p < length (code_of_view self.now).a }
         ensures component { result ≡ component_of (code_of_view self.now) p }
         ensures within { result < component_count (code_of_view self.now) }
         ensures grows { steps.old ≤ steps.new }
-        ensures cost { steps.new ≤ steps.old + 2 * digits (length (code_of_view self.now).a + 2) }
+        ensures cost { steps.new ≤ steps.old + 2 * digits (component_count (code_of_view self.now)) }
     {
         let mut low = 0;
         let mut high = self.components();
@@ -222,6 +222,20 @@ impl<'a> TuranView<'a> {
             }
         }
         low
+    }
+
+    /// The component that position `p` is in. In most maps it is the first, which holds nearly all positions.
+    fn component<C: Ledger>(&self, p: usize, steps: &mut Steps<C>) -> usize
+        requires { p < length (code_of_view self.now).a }
+        ensures component { result ≡ component_of (code_of_view self.now) p }
+        ensures within { result < component_count (code_of_view self.now) }
+        ensures some_steps { steps.old + 1 ≤ steps.new }
+        ensures cost { steps.new ≤ steps.old + 2 * digits (length (code_of_view self.now).a + 2) }
+    {
+        if p < self.start(1, steps) {
+            return 0;
+        }
+        self.component_by_halving(p, steps)
     }
 
     /// The position after `p`, round its component.

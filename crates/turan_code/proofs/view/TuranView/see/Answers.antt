@@ -1,4 +1,4 @@
-use Rattle.std.proofs.Common.{◌≡◌, ◌+◌, ℕ, Bool, List, true, false, if◌then◌else◌, ap, sym, ◌∙◌, subst, arith}
+use Rattle.std.proofs.Common.{◌≡◌, ◌+◌, ℕ, Bool, List, true, if◌then◌else◌, ap, sym, ◌∙◌, subst, arith}
 use Rattle.bit_words.specs.Bits.{rank}
 use Rattle.parens.specs.Matching.{is_open, mate_of}
 use Rattle.code_laws.specs.Code.{is_tree, parens, place}

@@ -2,7 +2,7 @@ use Rattle.std.proofs.Common.{◌-◌, ◌≤◌, ◌<◌, ◌+◌, ◌*◌}
 use Rattle.bit_words.specs.Digits.{digits}
 use Rattle.code_laws.specs.Code.{component_count, start_of}
 use Rattle.turan_code.specs.TuranView.{code_of_view}
-use Rattle.turan_code.proofs.view.TuranView.component.Given as goal
+use Rattle.turan_code.proofs.view.TuranView.component_by_halving.Given as goal
 
 abbrev pub invariant-loop-high : goal.invariant-loop-high
 invariant-loop-high g l = record {
