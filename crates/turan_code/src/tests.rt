@@ -118,6 +118,22 @@ fn is_crossed<C: Ledger>(view: TuranView<'_>, p: usize, steps: &mut Steps<C>) ->
         && view.ring_across(p, steps) == view.ring_of(mate, steps)
 }
 
+/// Whether the stop at position `p` says what is said of it by itself.
+fn is_stop<C: Ledger>(view: TuranView<'_>, kind: bool, p: usize, steps: &mut Steps<C>) -> bool
+    requires { p < length (code_of_view view).a }
+{
+    let stop = view.stop(kind, p, steps);
+    let next = if kind {
+        view.turn(p, steps)
+    } else {
+        view.next(p, steps)
+    };
+    stop.edge == view.edge_of(p, steps)
+        && stop.is_first == view.is_first(p, steps)
+        && stop.next == next
+        && view.after(stop.over, steps) == next
+}
+
 /// The first wrong position of a view, among each `stride`th and the last ones of the components.
 fn wrong_position<C: Ledger>(
     view: TuranView<'_>,
@@ -135,7 +151,9 @@ fn wrong_position<C: Ledger>(
         if (last || p % stride == 0)
             && (want.said_at(p) != Some(said_at(view, p, steps))
                 || !undone(view, p, steps)
-                || !is_crossed(view, p, steps))
+                || !is_crossed(view, p, steps)
+                || !is_stop(view, true, p, steps)
+                || !is_stop(view, false, p, steps))
         {
             return Some(p);
         }

@@ -33,7 +33,9 @@ pub struct Stop {
     pub edge: u32,
     /// Whether this is the edge's first position.
     pub is_first: bool,
-    /// The next position.
+    /// The position itself, or its mate where the walk goes over its edge.
+    pub over: usize,
+    /// The next position: the one after that.
     pub next: usize,
 }
 
@@ -239,7 +241,7 @@ impl<'a> TuranView<'a> {
     }
 
     /// The position after `p`, round its component.
-    fn after<C: Ledger>(&self, p: usize, steps: &mut Steps<C>) -> usize
+    pub fn after<C: Ledger>(&self, p: usize, steps: &mut Steps<C>) -> usize
         requires { p < length (code_of_view self.now).a }
         ensures after { result ≡ after (code_of_view self.now) p }
         ensures within { result < length (code_of_view self.now).a }
@@ -612,6 +614,8 @@ impl<'a> TuranView<'a> {
         ensures edge { result.edge ≡ edge_of (code_of_view self.now) p }
         ensures edge_within { result.edge < edge_count (code_of_view self.now) }
         ensures first { result.is_first ≡ is_first (code_of_view self.now) p }
+        ensures over { result.over ≡ over (code_of_view self.now) kind p }
+        ensures over_within { result.over < length (code_of_view self.now).a }
         ensures next { result.next ≡ step (code_of_view self.now) kind p }
         ensures within { result.next < length (code_of_view self.now).a }
         ensures some_steps { steps.old + 1 ≤ steps.new }
@@ -626,6 +630,7 @@ impl<'a> TuranView<'a> {
         Stop {
             edge: seen.edge,
             is_first: seen.is_first,
+            over,
             next: self.after(over, steps),
         }
     }
