@@ -57,13 +57,14 @@ hole_next c xs ys hole end start e l within s g =
     ap (λ us. us ++ outer_positions c js) (g ∙ ap (orbit c.code false) s) ∙ sym (outer-some c j js) ∙ ap (outer_positions c) (sym (between-next c hole end l within))
     ∙ ap (λ us. us ++ outer_positions c (components_between c hole end)) (sym e)
 
-pub face_end : (w : FaceWalk) → positions_left w.ring ≡ [] → face_positions w ≡ []
-face_end w e =
-    let c = contents_in w in
-    face-left w ∙ ap (λ xs. xs ++ outer_positions c (components_between c w.hole w.end)) e ∙ ap (outer_positions c) (between-none c w.hole w.end (w.ready e)) ∙ outer-none c
+pub face_empty : (c : Contents) (xs : List ℕ) (hole end : ℕ) → xs ≡ [] → end ≤ hole → (xs ++ outer_positions c (components_between c hole end)) ≡ []
+face_empty c xs hole end e l = ap (λ us. us ++ outer_positions c (components_between c hole end)) e ∙ ap (outer_positions c) (between-none c hole end l) ∙ outer-none c
 
-pub face_next : (w v : FaceWalk) (p : ℕ) (xs : List ℕ) → positions_left w.ring ≡ p ∷ xs → face_positions v ≡ xs ++ outer_positions (contents_in w) (components_between (contents_in w) w.hole w.end) → face_positions w ≡ p ∷ face_positions v
-face_next w v p xs e f =
+pub face_end : (w : FaceWalk) → positions_left w.ring ≡ [] → face_positions w ≡ []
+face_end w e = face-left w ∙ face_empty (contents_in w) (positions_left w.ring) w.hole w.end e (w.ready e)
+
+pub face_next : (w : FaceWalk) (p : ℕ) (xs ys : List ℕ) → positions_left w.ring ≡ p ∷ xs → ys ≡ xs ++ outer_positions (contents_in w) (components_between (contents_in w) w.hole w.end) → face_positions w ≡ p ∷ ys
+face_next w p xs ys e f =
     let c = contents_in w in
     face-left w ∙ ap (λ us. us ++ outer_positions c (components_between c w.hole w.end)) e ∙ ap (λ us. p ∷ us) (sym f)
 
@@ -74,23 +75,14 @@ rest-is w = refl
 pub face_rest-none : (w : FaceWalk) → face_positions w ≡ [] → rest w ≡ []
 face_rest-none w e = rest-is w ∙ ap (map (signed_at (contents_in w))) e
 
-pub face_rest-some : (v w : FaceWalk) (p : ℕ) (d : ℤ) → contents_in w ≡ contents_in v → face_positions v ≡ p ∷ face_positions w → d ≡ signed_at (contents_in v) p → rest v ≡ d ∷ rest w
-face_rest-some v w p d same e f =
-    rest-is v ∙ ap (map (signed_at (contents_in v))) e ∙ ap (λ x. x ∷ map (signed_at (contents_in v)) (face_positions w)) (sym f)
-    ∙ ap (λ m. d ∷ map (signed_at m) (face_positions w)) (sym same) ∙ ap (λ xs. d ∷ xs) (sym (rest-is w))
+pub face_rest-some : (w : FaceWalk) (p : ℕ) (d : ℤ) (ys : List ℕ) → face_positions w ≡ p ∷ ys → d ≡ signed_at (contents_in w) p → rest w ≡ d ∷ map (signed_at (contents_in w)) ys
+face_rest-some w p d ys e f = rest-is w ∙ ap (map (signed_at (contents_in w))) e ∙ ap (λ x. x ∷ map (signed_at (contents_in w)) ys) (sym f)
 
-pub face_allowance-none : (w : FaceWalk) → rest w ≡ [] → allowance w ≡ 0
+pub face_paid : (w : FaceWalk) (d : ℤ) (left : List ℤ) (first last : ℕ) → rest w ≡ d ∷ left → last ≤ first + price (contents_in w) → last + price (contents_in w) * length left ≤ first + allowance w
 unfolding allowance
-face_allowance-none w e = rw e (omega arith)
-
-pub face_paid : (v w : FaceWalk) (d : ℤ) (first last : ℕ) → contents_in w ≡ contents_in v → rest v ≡ d ∷ rest w → last ≤ first + price (contents_in v) → last + allowance w ≤ first + allowance v
-unfolding allowance
-face_paid v w d first last same e h =
-    let prices = ap price same in
-    let long : length (rest v) ≡ suc (length (rest w)) = ap length e in
-    let all : price (contents_in v) * length (rest v) ≡ price (contents_in v) * suc (length (rest w)) = ap (λ n. price (contents_in v) * n) long in
-    let other : price (contents_in w) * length (rest w) ≡ price (contents_in v) * length (rest w) = ap (λ x. x * length (rest w)) prices in
-    omega (arith, all, other, h)
+face_paid w d left first last e h =
+    let all : price (contents_in w) * length (rest w) ≡ price (contents_in w) * suc (length left) = ap (λ ds. price (contents_in w) * length ds) e in
+    omega (arith, all, h)
 
 -- the price of going on and looking across, in either order
 pub face_passed_cost : (c : Contents) (xs ys : List ℕ) (p first second last bound : ℕ) → xs ≡ p ∷ ys → first + pass_price c * length xs ≤ bound

@@ -44,7 +44,8 @@ found_test key row keeps (y ∷ ys) x =
       | inr n ↦ rw (ne_eqb (key (row y)) x (λ e. n (sym (keeps y) ∙ e)), ne_eqb x y (λ e. n (sym e))) (found_test key row keeps ys x)
     ]
 
-some_map : {X Y : Type 0} (f : X → Y) (o : Option X) → is_some (option_map f o) ≡ is_some o
+-- a mapped option is there where it was
+pub some_map : {X Y : Type 0} (f : X → Y) (o : Option X) → is_some (option_map f o) ≡ is_some o
 some_map f None = refl
 some_map f (Some x) = refl
 
@@ -147,6 +148,9 @@ module _ (c : Contents) (h : is_whole c ≡ true) where
 
   pub id_ok : (e id : ℕ) → e < length c.edges → id ≡ slice_index c.edges e → IsTrue (is_id (LARGEST_ID + 1) id)
   id_ok e id l is = let r = w.edge_names.in_range e l in and_from (nat_le 1 id) (nat_lt id (LARGEST_ID + 1)) (le-leb 1 id (omega (arith, is, r.0))) (lt-ltb id (LARGEST_ID + 1) (omega (arith, is, r.1)))
+
+  pub id_some : (e : ℕ) → e < length c.edges → 0 < slice_index c.edges e
+  id_some e l = let r = w.edge_names.in_range e l in omega (arith, r.0)
 
   -- the first position of an edge, and its mate
   pub first_edge : (k : Code) (number first : ℕ) (b : Bool) (d : ℤ) → k ≡ c.code → Some first ≡ first_of_edge k number → b ≡ slice_index_or c.forward number false → slice_index c.edges number ≡ edges.edge_of d

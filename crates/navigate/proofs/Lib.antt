@@ -3,6 +3,7 @@ pub mod Resting
 pub mod Leasts
 pub mod OrbitLengths
 pub mod PriceLaws
+pub mod RankLaws
 pub mod KeptLaws
 pub mod Facts
 pub mod MapLists

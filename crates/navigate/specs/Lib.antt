@@ -2,6 +2,7 @@ pub mod Bound
 pub mod Least
 pub mod KeptStops
 pub mod OrbitWalk
+pub mod Ranked
 pub mod Holes
 pub mod FaceWalk
 pub mod IslandWalk

@@ -101,11 +101,9 @@ impl<'a> AdjacentWalk<'a> {
         let next = self.next;
         marks.set(next);
         enter(&mut self.given, self.count, next as u32);
-        let mut left = self.left;
-        let _ = left.pass(steps);
-        let face = left.face_in(next, steps);
-        self.next = to_unseen(&mut left, self.place, marks, steps);
-        self.left = left;
+        let _ = self.left.pass(steps);
+        let face = self.left.face_in(next, steps);
+        self.next = to_unseen(&mut self.left, self.place, marks, steps);
         self.count += 1;
         Some(face)
     }

@@ -1,7 +1,8 @@
 //! The walk along the rings of a face, step by step.
 
-ghost use Rattle.std.specs.Prelude.{◌≡◌, ◌≤◌, [], length};
+ghost use Rattle.std.specs.Prelude.{◌≡◌, ◌≤◌, ◌+◌, ◌++◌, [], length};
 ghost use Rattle.pemb_file.specs.Served.{contents_of_view};
+ghost use Rattle.navigate.specs.Holes.{components_between, outer_positions};
 ghost use Rattle.navigate.specs.OrbitWalk as orbits;
 
 use crate::orbit_walk::OrbitWalk;
@@ -11,6 +12,36 @@ use bit_words::Steps;
 use pemb_file::Served;
 use std::sync::ledger::Ledger;
 use topo_base::{FaceId, Signed};
+
+/// Where nothing is left of a ring and another hole comes before `end`, goes on to the outer ring of that one.
+fn settle<'a, C: Ledger>(
+    served: Served<'a>,
+    ring: &mut OrbitWalk<'a>,
+    hole: &mut usize,
+    end: usize,
+    steps: &mut Steps<C>,
+)
+    requires same { orbits.contents_in ring.old ≡ contents_of_view served }
+    requires ends { end ≤ length (contents_of_view served).place_order }
+    ensures contents { orbits.contents_in ring.new ≡ contents_of_view served.entry }
+    ensures positions { orbits.positions_left ring.new ++ outer_positions (contents_of_view served.entry)
+        (components_between (contents_of_view served.entry) hole.new end) ≡ orbits.positions_left ring.old
+        ++ outer_positions (contents_of_view served.entry)
+        (components_between (contents_of_view served.entry) hole.old end) }
+    ensures ready { orbits.positions_left ring.new ≡ [] → end ≤ hole.new }
+    ensures grows { steps.old ≤ steps.new }
+    ensures cost { steps.new ≤ steps.old + 6 }
+{
+    if *hole >= end {
+        return;
+    }
+    if let Some(_next) = ring.peek() {
+        return;
+    }
+    let start = start_at(served, *hole, steps);
+    *ring = OrbitWalk::from(served, false, start);
+    *hole += 1;
+}
 
 /// A walk along the rings of a face: what is left of one ring, and then the outer rings of the components in the face,
 /// from one entry of the order of components to before another. Where a ring ends and another comes, the walk stands at
@@ -54,27 +85,12 @@ impl<'a> FaceWalk<'a> {
         ensures grows { steps.old ≤ steps.new }
         ensures cost { steps.new ≤ steps.old + 6 }
     {
-        if hole >= end {
-            return FaceWalk {
-                served,
-                ring,
-                hole,
-                end,
-            };
-        }
-        if let Some(_next) = ring.peek() {
-            return FaceWalk {
-                served,
-                ring,
-                hole,
-                end,
-            };
-        }
-        let start = start_at(served, hole, steps);
+        let (mut ring, mut hole) = (ring, hole);
+        settle(served, &mut ring, &mut hole, end, steps);
         FaceWalk {
             served,
-            ring: OrbitWalk::from(served, false, start),
-            hole: hole + 1,
+            ring,
+            hole,
             end,
         }
     }
@@ -92,19 +108,6 @@ impl<'a> FaceWalk<'a> {
         }
     }
 
-    /// Goes on with this ring, or with the next hole where nothing is left of it.
-    fn go_on<C: Ledger>(&mut self, ring: OrbitWalk<'a>, steps: &mut Steps<C>)
-        requires same { orbits.contents_in ring ≡ contents_in self.old }
-        ensures contents { contents_in self.new ≡ contents_in self.old }
-        ensures positions { face_positions self.new ≡ orbits.positions_left ring.entry
-            ++ outer_positions (contents_in self.old)
-            (components_between (contents_in self.old) self.old.hole self.old.end) }
-        ensures grows { steps.old ≤ steps.new }
-        ensures cost { steps.new ≤ steps.old + 6 }
-    {
-        *self = FaceWalk::settled(self.served, ring, self.hole, self.end, steps);
-    }
-
     /// The next position, or None at the end.
     pub fn pass<C: Ledger>(&mut self, steps: &mut Steps<C>) -> Option<usize>
         ensures contents { contents_in self.new ≡ contents_in self.old }
@@ -115,10 +118,9 @@ impl<'a> FaceWalk<'a> {
         ensures cost { MatchOption result (steps.new ≡ steps.old) (λ _. (steps.old + 1 ≤ steps.new)
             × (steps.new ≤ steps.old + (9 * line_digits (contents_in self.old) + 71))) }
     {
-        let mut ring = self.ring;
-        match ring.pass(steps) {
+        match self.ring.pass(steps) {
             Some(p) => {
-                self.go_on(ring, steps);
+                settle(self.served, &mut self.ring, &mut self.hole, self.end, steps);
                 Some(p)
             }
             None => None,
@@ -154,10 +156,9 @@ impl<'a> FaceWalk<'a> {
         ensures free { IsNone result → steps.new ≡ steps.old }
         ensures paid { steps.new + allowance self.new ≤ steps.old + allowance self.old }
     {
-        let mut ring = self.ring;
-        match ring.stop(steps) {
+        match self.ring.stop(steps) {
             Some(found) => {
-                self.go_on(ring, steps);
+                settle(self.served, &mut self.ring, &mut self.hole, self.end, steps);
                 Some(found.1)
             }
             None => None,

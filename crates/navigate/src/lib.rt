@@ -18,6 +18,7 @@ mod neighbours;
 mod orbit_walk;
 mod places;
 mod positions;
+mod ranked;
 mod rounds;
 mod search;
 mod unseen;

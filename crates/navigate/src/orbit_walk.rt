@@ -6,7 +6,9 @@ ghost use Rattle.navigate.specs.KeptStops.{AreKept};
 
 use crate::kept_stops::KeptStops;
 use crate::positions;
+use crate::ranked::{RankedEdge, ranked_with};
 use bit_words::Steps;
+use id_names::NamesView;
 use pemb_file::Served;
 use std::sync::ledger::Ledger;
 use topo_base::Signed;
@@ -45,7 +47,9 @@ impl<'a> OrbitWalk<'a> {
     ghost use Rattle.pemb_file.specs.Served.{contents_of_view};
     ghost use Rattle.navigate.specs.Bound.{line_digits};
     ghost use Rattle.navigate.specs.KeptStops.{IsStop};
+    ghost use Rattle.id_names.specs.Views.{ids_of, names_in};
     ghost use Rattle.navigate.specs.OrbitWalk.{contents_in, positions_left, rest, price, allowance};
+    ghost use Rattle.navigate.specs.Ranked.{IsRankOf};
 
     /// The walk that begins at a position and ends before it.
     pub(crate) fn from(served: Served<'a>, kind: bool, p: usize) -> OrbitWalk<'a>
@@ -124,6 +128,25 @@ impl<'a> OrbitWalk<'a> {
         }
     }
 
+    /// The position after the next one: by what is kept of that one, or by a step.
+    fn following<C: Ledger>(&mut self, steps: &mut Steps<C>) -> usize
+        requires { 0 < self.old.left }
+        ensures same { (self.new.at ≡ self.old.at) × (self.new.left ≡ self.old.left) }
+        ensures positions { positions_left self.new ≡ positions_left self.old }
+        ensures contents { contents_in self.new ≡ contents_in self.old }
+        ensures kind { self.new.kind ≡ self.old.kind }
+        ensures step { result ≡ codes.step (contents_in self.old).code self.old.kind self.old.at }
+        ensures within { result < length (contents_in self.old).code.a }
+        ensures some_steps { steps.old + 1 ≤ steps.new }
+        ensures cost { steps.new ≤ steps.old + (9 * line_digits (contents_in self.old) + 65) }
+    {
+        let p = self.at;
+        match self.kept.pass(p) {
+            Some(kept) => self.served.code().after(kept.over as usize, steps),
+            None => positions::step_from(self.served, self.kind, p, steps),
+        }
+    }
+
     /// The next position, or None at the end.
     pub(crate) fn pass<C: Ledger>(&mut self, steps: &mut Steps<C>) -> Option<usize>
         ensures contents { contents_in self.new ≡ contents_in self.old }
@@ -138,7 +161,7 @@ impl<'a> OrbitWalk<'a> {
             return None;
         }
         let p = self.at;
-        let next = positions::step_from(self.served, self.kind, p, steps);
+        let next = self.following(steps);
         self.go_on(next);
         Some(p)
     }
@@ -151,14 +174,21 @@ impl<'a> OrbitWalk<'a> {
         ensures contents { contents_in self.new ≡ contents_in self.old }
         ensures kind { self.new.kind ≡ self.old.kind }
         ensures stop { IsStop (contents_in self.old).code self.old.kind self.old.at result }
-        ensures grows { steps.old ≤ steps.new }
+        ensures some_steps { steps.old + 1 ≤ steps.new }
         ensures cost { steps.new ≤ steps.old + (13 * line_digits (contents_in self.old) + 116) }
     {
         let p = self.at;
-        if let Some(stop) = self.kept.pass(p) {
-            return stop;
+        let code = self.served.code();
+        if let Some(kept) = self.kept.pass(p) {
+            let over = kept.over as usize;
+            return Stop {
+                edge: kept.edge,
+                is_first: kept.is_first,
+                over,
+                next: code.after(over, steps),
+            };
         }
-        let stop = self.served.code().stop(self.kind, p, steps);
+        let stop = code.stop(self.kind, p, steps);
         self.kept.keep(p, stop);
         stop
     }
@@ -181,6 +211,34 @@ impl<'a> OrbitWalk<'a> {
         let p = self.at;
         let stop = self.look(steps);
         let edge = positions::edge_with(self.served, stop.edge as usize, stop.is_first, steps);
+        self.go_on(stop.next);
+        Some((p, edge))
+    }
+
+    /// The next position and the rank of its signed edge among these names of the edges, or None at the end.
+    pub(crate) fn ranked<C: Ledger>(
+        &mut self,
+        edges: &NamesView<'_>,
+        steps: &mut Steps<C>,
+    ) -> Option<(usize, RankedEdge)>
+        requires { ids_of edges.now ≡ (contents_in self.old).edges }
+        ensures contents { contents_in self.new ≡ contents_in self.old }
+        ensures kind { self.new.kind ≡ self.old.kind }
+        ensures next { MatchOption result (positions_left self.old ≡ [])
+            (λ found. positions_left self.old ≡ found.0 ∷ positions_left self.new) }
+        ensures edge { IfSome result (λ found. IsRankOf (names_in edges.now) found.1
+            (signed_at (contents_in self.old) found.0)) }
+        ensures within { MatchOption result (positions_left self.new ≡ [])
+            (λ found. found.0 < length (contents_in self.old).code.a) }
+        ensures cost { MatchOption result (steps.new ≡ steps.old) (λ _. (steps.old + 1 ≤ steps.new)
+            × (steps.new ≤ steps.old + price (contents_in self.old))) }
+    {
+        if self.left == 0 {
+            return None;
+        }
+        let p = self.at;
+        let stop = self.look(steps);
+        let edge = ranked_with(self.served, edges, stop.edge as usize, stop.is_first, steps);
         self.go_on(stop.next);
         Some((p, edge))
     }

@@ -28,12 +28,14 @@ pub(crate) fn begun_at_smallest<'a, C: Ledger>(
     ensures cost { steps.new ≤ steps.old + price (contents_of_view served.entry)
         * length (orbit (contents_of_view served.entry).code kind p) }
 {
+    let edges = served.edges();
+    let _count = edges.count();
     let mut walk = OrbitWalk::from(served, kind, p);
-    let Some(mut best) = walk.stop(steps) else {
+    let Some(mut best) = walk.ranked(edges, steps) else {
         unreachable!()
     };
-    while let Some(found) = walk.stop(steps) {
-        if found.1.key_less(best.1) {
+    while let Some(found) = walk.ranked(edges, steps) {
+        if found.1.is_less(best.1) {
             best = found;
         }
     }

@@ -11,16 +11,7 @@ use Rattle.file_laws.specs.Contents.{Contents}
 use Rattle.file_laws.specs.MapOfFile.{region_row, rows_of_contents}
 use Rattle.file_laws.proofs.Lists.{has-index, index-has}
 use Rattle.navigate.specs.Bound.{map_with}
-use Rattle.navigate.proofs.Facts.{found_test}
-
-some_map : {X Y : Type 0} (f : X → Y) (o : Option X) → is_some (option_map f o) ≡ is_some o
-some_map f None = refl
-some_map f (Some x) = refl
-
--- a number is found exactly where the id is among the names
-named_test : (ids : List ℕ) (id : ℕ) (o : Option ℕ) → MatchOption o ((k : ℕ) → k < length ids → slice_index ids k ≢ id) (λ number. (number < length ids) × (slice_index ids number ≡ id)) → is_some o ≡ has ids id
-named_test ids id None h = sym (false_from_ne_true (has ids id) (λ there. let r = index-has ids id there in absurd (h r.0 r.1 r.2)))
-named_test ids id (Some k) h = sym (subst (λ x. has ids x ≡ true) h.1 (has-index ids k h.0))
+use Rattle.navigate.proofs.Facts.{found_test, named_test, some_map}
 
 region_test : (c : Contents) (r : ℕ) → has c.regions r ≡ is_region (map_with c) r
 region_test c r =

@@ -1,6 +1,8 @@
 use Rattle.std.proofs.Common.{◌≡◌, ◌<◌, ◌≤◌, ◌+◌, ◌*◌, length}
 use Rattle.code_laws.specs.Orbits.{orbit}
 use Rattle.file_laws.specs.MapOfFile.{signed_at}
+use Rattle.id_names.specs.Views.{names_in}
+use Rattle.navigate.specs.Ranked.{IsRankOf}
 use Rattle.navigate.specs.Least.{least, smallest_of}
 use Rattle.pemb_file.specs.Served.{contents_of_view}
 use Rattle.navigate.specs.OrbitWalk.{contents_in, positions_left, price}
@@ -8,12 +10,12 @@ use Rattle.navigate.proofs.search.begun_at_smallest.Given as goal
 
 abbrev pub invariant-loop-found : goal.invariant-loop-found
 invariant-loop-found g l =
-    let m = contents_of_view l.served in
+    let m = contents_of_view l.fn.served in
     record {
       map : contents_in l.walk ≡ m;
       kind : l.walk.kind ≡ l.kind;
       within : l.best.0 < length m.code.a;
-      edge : l.best.1 ≡ signed_at m l.best.0;
+      edge : IsRankOf (names_in l.edges) l.best.1 (signed_at m l.best.0);
       least_left : least m l.best.0 (positions_left l.walk) ≡ smallest_of m l.kind l.p;
       grows : l.fn.steps + 1 ≤ l.steps;
       paid : l.steps + price m * length (positions_left l.walk) ≤ l.fn.steps + price m * length (orbit m.code l.kind l.p);

@@ -1,0 +1,15 @@
+-- Signed edges by the places of their ids in the list of ids that rises.
+use Rattle.std.specs.Prelude.{◌≡◌, ◌<◌, ℤ, Bool, nat_lt, ◌==◌, ◌&&◌, ◌||◌, not, length}
+use Rattle.topo_base.specs.SignedEdge.{edge_of, is_forward}
+use Rattle.id_names.specs.RisingNames.{RisingNames, ids_by_number, id_at}
+use Rattle.navigate.specs.declared.ranked.RankedEdge.{RankedEdge}
+
+-- the place of the signed edge's id in these names, and its direction
+pub record IsRankOf (names : RisingNames) (ranked : RankedEdge) (d : ℤ) : Type 0 where
+  pub id : id_at names ranked.rank ≡ edge_of d
+  pub within : ranked.rank < length (ids_by_number names)
+  pub direction : ranked.is_forward ≡ is_forward d
+
+-- the order of signed edges, by their ranks
+abbrev pub ranks_before : RankedEdge → RankedEdge → Bool
+ranks_before d e = nat_lt d.rank e.rank || ((d.rank == e.rank) && d.is_forward && not e.is_forward)
