@@ -2,6 +2,8 @@ pub mod Writing
 pub mod Listing
 pub mod Cutting
 pub mod Ending
+pub mod NextLines
+pub mod Fronts
 pub mod Piecing
 pub mod Streaming
 pub mod Kept

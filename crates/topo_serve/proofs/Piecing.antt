@@ -1,41 +1,18 @@
--- Answering the lines that end in a piece, one after the other.
-use Rattle.std.proofs.Common.{◌≡◌, ℕ, zero, suc, ◌+◌, ◌-◌, ◌*◌, ◌≤◌, true, false, List, [], ◌∷◌, ◌++◌, flat_map, length, Result, Ok, Err, refl, sym, ap, ◌∙◌, append_assoc, append-nil, arith}
-use Rattle.std.specs.Prelude.{IsErrAnd, ◌==◌, if◌then◌else◌}
-use Rattle.std.proofs.Math.Nat.{mul-le-mul_right}
+-- Answering lines one after another: what is done, and what is left.
+use Rattle.std.proofs.Common.{◌≡◌, ℕ, suc, ◌+◌, ◌*◌, ◌≤◌, List, [], ◌∷◌, ◌++◌, flat_map, length, Result, Ok, Err, refl, sym, ap, ◌∙◌, append_assoc, append-nil, arith}
+use Rattle.std.specs.Prelude.{IsErrAnd}
 use Rattle.bit_words.specs.Digits.{digits}
 use Rattle.plane_model.specs.PlaneMap.{PlaneMap}
 use Rattle.plane_model.specs.Consistent.{size}
 use Rattle.plane_model.specs.Answers.{answer, answer_to, line_walked, items_listed, walked, listed}
 use Rattle.topo_serve.specs.Gathering.{Out, Writes}
-use Rattle.topo_serve.specs.Pieces.{ended_behind, open_behind, last_line, cut}
+use Rattle.topo_serve.specs.Pieces.{last_line, cut}
 use Rattle.topo_serve.proofs.Ending.{last_none, last_one}
 use Rattle.topo_serve.specs.Serving.{over_lines, words_to_answer, words_of_line, found_by_reads, found_in}
 use Rattle.navigate.specs.Bound.{most_words, words_ahead}
+use Rattle.topo_serve.proofs.Answering.{same_bytes}
 use Rattle.topo_serve.proofs.Cutting.{same_line}
 use Rattle.topo_serve.proofs.Writing.{writes_nothing, writes_more, writes_failed, writes_ok}
-
--- the lines of a piece behind a front of a line are answered up to where this rest stands behind this front, and so many
--- lines of the rest are looked up ahead
-pub record IsAnswered (m : PlaneMap) (start piece front rest : List ℕ) (steps_before steps_after ahead : ℕ) (before after : Out) : Type 0 where
-  pub done : List (List ℕ)
-  pub split : ended_behind start piece ≡ done ++ ended_behind front rest
-  pub opens : open_behind start piece ≡ open_behind front rest
-  pub writes : Writes {X = Unit {0}} {E = Unit {0}} (Ok tt) before after (flat_map (answer m) done)
-  pub least : steps_before + over_lines (found_by_reads m) done ≤ steps_after
-  pub within : ahead ≤ length (ended_behind front rest)
-  pub most : steps_after ≤ steps_before + over_lines (words_of_line m) done + ahead * words_ahead m
-
-pub answered_none : (m : PlaneMap) (start piece : List ℕ) (steps : ℕ) (out : Out) → IsAnswered m start piece start piece steps steps 0 out out
-unfolding over_lines
-answered_none m start piece steps out = record {
-  done = [];
-  split = refl;
-  opens = refl;
-  writes = writes_nothing tt out;
-  least = omega arith;
-  within = omega arith;
-  most = omega arith;
-}
 
 pub over_more : (f : List ℕ → ℕ) (xs ys : List (List ℕ)) → over_lines f (xs ++ ys) ≡ over_lines f xs + over_lines f ys
 unfolding over_lines
@@ -46,12 +23,22 @@ pub answers_more : (m : PlaneMap) (xs ys : List (List ℕ)) → flat_map (answer
 answers_more m [] ys = refl
 answers_more m (x ∷ xs) ys = ap (λ z. answer m x ++ z) (answers_more m xs ys) ∙ sym (append_assoc (answer m x) (flat_map (answer m) xs) (flat_map (answer m) ys))
 
-over_one : (f : List ℕ → ℕ) (xs : List (List ℕ)) (l : List ℕ) → over_lines f (xs ++ l ∷ []) ≡ over_lines f xs + f l
+pub over_one : (f : List ℕ → ℕ) (l : List ℕ) → over_lines f (l ∷ []) ≡ f l
 unfolding over_lines
-over_one f xs l = over_more f xs (l ∷ []) ∙ omega arith
+over_one f l = omega arith
 
-answers_one : (m : PlaneMap) (xs : List (List ℕ)) (l : List ℕ) → flat_map (answer m) (xs ++ l ∷ []) ≡ flat_map (answer m) xs ++ answer m l
-answers_one m xs l = answers_more m xs (l ∷ []) ∙ ap (λ z. flat_map (answer m) xs ++ z) (append-nil (answer m l))
+pub over_nothing : (f : List ℕ → ℕ) (ls : List (List ℕ)) → ls ≡ [] → over_lines f ls ≡ 0
+unfolding over_lines
+over_nothing f ls e = ap (over_lines f) e
+
+pub over_single : (f : List ℕ → ℕ) (ls : List (List ℕ)) (l : List ℕ) → ls ≡ l ∷ [] → over_lines f ls ≡ f l
+over_single f ls l e = ap (over_lines f) e ∙ over_one f l
+
+pub answers_one : (m : PlaneMap) (l : List ℕ) → flat_map (answer m) (l ∷ []) ≡ answer m l
+answers_one m l = append-nil (answer m l)
+
+pub answers_single : (m : PlaneMap) (ls : List (List ℕ)) (l : List ℕ) → ls ≡ l ∷ [] → flat_map (answer m) ls ≡ answer m l
+answers_single m ls l e = ap (flat_map (answer m)) e ∙ answers_one m l
 
 -- a line of which as much is kept as is looked at is answered as it is
 pub line_answered : {X E : Type 0} (r : Result X E) (m : PlaneMap) (l kept : List ℕ) (a b : Out) → kept ≡ cut l → Writes r a b (answer m kept) → Writes r a b (answer m l)
@@ -63,15 +50,6 @@ line_found m l kept e = ap (found_in m) (same_line kept l e)
 pub line_words : (m : PlaneMap) (l kept : List ℕ) → kept ≡ cut l → words_to_answer m kept ≡ words_to_answer m l
 line_words m l kept e = ap (λ x. most_words m (line_walked m x) (items_listed m x)) (same_line kept l e)
 
-pub no_items : (front : List ℕ) → length front ≡ 0 → front ≡ []
-no_items [] none = refl
-no_items (b ∷ front) none = absurd (omega (arith, none))
-
--- a line that has no front
-pub front_none : (front end : List ℕ) → length front ≡ 0 → front ++ end ≡ end
-front_none [] end none = refl
-front_none (b ∷ front) end none = absurd (omega (arith, none))
-
 -- what a line may read is what looking it up ahead and answering it may
 pub words_in_line : (m : PlaneMap) (l : List ℕ) → words_to_answer m l + words_ahead m ≡ words_of_line m l
 words_in_line m l = in_all (digits (size m)) (walked m l + listed m l)
@@ -79,95 +57,126 @@ words_in_line m l = in_all (digits (size m)) (walked m l + listed m l)
     in_all : (d n : ℕ) → 256 * d * (n + 1) + 128 * d + 128 * d ≡ 256 * d * (n + 2)
     in_all d n = omega arith
 
--- lines may read at least what looking them up ahead may
-pub ahead_fits : (m : PlaneMap) (ls : List (List ℕ)) → length ls * words_ahead m ≤ over_lines (words_of_line m) ls
+-- the same of some lines
+pub words_in_lines : (m : PlaneMap) (ls : List (List ℕ)) → over_lines (words_to_answer m) ls + length ls * words_ahead m ≡ over_lines (words_of_line m) ls
 unfolding over_lines
-ahead_fits m [] = omega arith
-ahead_fits m (l ∷ ls) = one_more (length ls) (words_ahead m) (words_to_answer m l) (words_of_line m l) (over_lines (words_of_line m) ls) (words_in_line m l) (ahead_fits m ls)
+words_in_lines m [] = omega arith
+words_in_lines m (l ∷ ls) = one_more (length ls) (words_ahead m) (words_to_answer m l) (words_of_line m l) (over_lines (words_to_answer m) ls) (over_lines (words_of_line m) ls) (words_in_line m l) (words_in_lines m ls)
   where
-    one_more : (n a w all sum : ℕ) → w + a ≡ all → n * a ≤ sum → suc n * a ≤ all + sum
-    one_more n a w all sum e h = omega (arith, e, h)
+    one_more : (n a w all sum most : ℕ) → w + a ≡ all → sum + n * a ≡ most → w + sum + suc n * a ≡ all + most
+    one_more n a w all sum most e h = omega (arith, e, h)
 
--- after a line is answered, one line less is looked up ahead
-paid_more : (ahead a w all s sum t u : ℕ) → w + a ≡ all → t ≤ s + sum + ahead * a → u ≤ t + w → u ≤ s + (sum + all) + (ahead - 1) * a
-paid_more zero a w all s sum t u e h k = omega (arith, e, h, k)
-paid_more (suc n) a w all s sum t u e h k = let less : suc n - 1 ≡ n = omega arith in rw less (omega (arith, e, h, k))
+-- lines are looked up ahead, and answered
+pub paid_ahead : (m looked served : PlaneMap) (ls : List (List ℕ)) (n s t u : ℕ) → length ls ≡ n → looked ≡ m → served ≡ m
+    → t ≤ s + n * words_ahead looked → u ≤ t + over_lines (words_to_answer served) ls → u ≤ s + over_lines (words_of_line m) ls
+paid_ahead m looked served ls n s t u many looked_same served_same ahead most =
+    omega (arith, words_in_lines m ls, ap (λ k. k * words_ahead m) many, ap (λ x. n * words_ahead x) looked_same, ap (λ x. over_lines (words_to_answer x) ls) served_same, ahead, most)
 
--- as many lines end in some bytes behind any front
-pub as_many : (front other bytes : List ℕ) → length (ended_behind front bytes) ≡ length (ended_behind other bytes)
-unfolding ended_behind
-as_many front other [] = refl
-as_many front other (b ∷ bytes) =
-    elim (b == 10) as (λ v. length (if v then front ∷ ended_behind [] bytes else ended_behind (front ++ b ∷ []) bytes) ≡ length (if v then other ∷ ended_behind [] bytes else ended_behind (other ++ b ∷ []) bytes))
-    [ true ↦ refl | false ↦ as_many (front ++ b ∷ []) (other ++ b ∷ []) bytes ]
+-- of these lines all but those that are left are answered, each at its price at most
+pub record IsAnswered (m : PlaneMap) (price : List ℕ → ℕ) (lines left : List (List ℕ)) (steps_before steps_after : ℕ) (before after : Out) : Type 0 where
+  pub done : List (List ℕ)
+  pub split : lines ≡ done ++ left
+  pub writes : Writes {X = Unit {0}} {E = Unit {0}} (Ok tt) before after (flat_map (answer m) done)
+  pub least : steps_before + over_lines (found_by_reads m) done ≤ steps_after
+  pub most : steps_after ≤ steps_before + over_lines price done
 
--- lines are looked up ahead
-pub answered_ahead : (m : PlaneMap) (start piece front rest : List ℕ) (s t u ahead later : ℕ) (a b : Out) → IsAnswered m start piece front rest s t ahead a b
-    → (ahead ≤ length (ended_behind [] rest) → later ≤ length (ended_behind [] rest)) → t ≤ u → u + ahead * words_ahead m ≤ t + later * words_ahead m → IsAnswered m start piece front rest s u later a b
-answered_ahead m start piece front rest s t u ahead later a b p within grows paid = record {
-  done = p.done;
-  split = p.split;
-  opens = p.opens;
-  writes = p.writes;
-  least = omega (arith, p.least, grows);
-  within = let same = as_many front [] rest in omega (arith, same, within (omega (arith, same, p.within)));
-  most = omega (arith, p.most, paid);
-}
-
-pub answered_more : {X E : Type 0} (x : X) (m : PlaneMap) (start piece front rest l more : List ℕ) (s t u ahead : ℕ) (a b c : Out)
-    → IsAnswered m start piece front rest s t ahead a b → ended_behind front rest ≡ l ∷ ended_behind [] more → open_behind front rest ≡ open_behind [] more
-    → Writes {X = X} {E = E} (Ok x) b c (answer m l) → t + found_by_reads m l ≤ u → u ≤ t + words_to_answer m l
-    → IsAnswered m start piece [] more s u (ahead - 1) a c
-answered_more x m start piece front rest l more s t u ahead a b c p e o w least most = record {
-  done = p.done ++ l ∷ [];
-  split = p.split ∙ ap (λ z. p.done ++ z) e ∙ sym (append_assoc p.done (l ∷ []) (ended_behind [] more));
-  opens = p.opens ∙ o;
-  writes = rw (answers_one m p.done l) (writes_more tt (Ok tt) a b c (flat_map (answer m) p.done) (answer m l) p.writes (writes_ok x tt b c (answer m l) w));
-  least = omega (arith, p.least, least, over_one (found_by_reads m) p.done l);
-  within = let count = ap length e in omega (arith, p.within, count);
-  most = rw (over_one (words_of_line m) p.done l)
-      (paid_more ahead (words_ahead m) (words_to_answer m l) (words_of_line m l) s (over_lines (words_of_line m) p.done) t u (words_in_line m l) p.most most);
-}
-
--- where writing the answer to the next line failed
-pub answered_part : {X E Y F : Type 0} (r : Result X E) (P : E → Type 0) (f : F) (m : PlaneMap) (start piece front rest l more : List ℕ) (s t ahead : ℕ) (a b c : Out)
-    → IsAnswered m start piece front rest s t ahead a b → ended_behind front rest ≡ l ∷ ended_behind [] more → IsErrAnd r P → Writes {X = Y} {E = F} (Err f) b c (answer m l)
-    → Writes r a c (flat_map (answer m) (ended_behind start piece))
-answered_part r P f m start piece front rest l more s t ahead a b c p e is w =
-    let all : flat_map (answer m) (ended_behind start piece) ≡ flat_map (answer m) p.done ++ (answer m l ++ flat_map (answer m) (ended_behind [] more)) =
-    ap (flat_map (answer m)) (p.split ∙ ap (λ z. p.done ++ z) e) ∙ answers_more m p.done (l ∷ ended_behind [] more) in
-    rw all (writes_more tt r a b c (flat_map (answer m) p.done) (answer m l ++ flat_map (answer m) (ended_behind [] more)) p.writes
-    (writes_failed r P f b c (answer m l) (flat_map (answer m) (ended_behind [] more)) is w))
-
-pub paid_part : (m : PlaneMap) (start piece front rest l more : List ℕ) (s t u ahead : ℕ) (a b : Out)
-    → IsAnswered m start piece front rest s t ahead a b → ended_behind front rest ≡ l ∷ ended_behind [] more → u ≤ t + words_to_answer m l
-    → u ≤ s + over_lines (words_of_line m) (ended_behind start piece)
+pub answered_none : (m : PlaneMap) (price : List ℕ → ℕ) (lines : List (List ℕ)) (steps : ℕ) (out : Out) → IsAnswered m price lines lines steps steps out out
 unfolding over_lines
-paid_part m start piece front rest l more s t u ahead a b p e most =
-    let within : ahead ≤ 1 + length (ended_behind [] more) = let count = ap length e in omega (arith, p.within, count) in
-    let known : ahead * words_ahead m ≤ (1 + length (ended_behind [] more)) * words_ahead m = mul-le-mul_right (words_ahead m) within in
-    let fits = ahead_fits m (ended_behind [] more) in
-    omega (arith, p.most, most, known, fits, words_in_line m l, ap (over_lines (words_of_line m)) (p.split ∙ ap (λ z. p.done ++ z) e), over_more (words_of_line m) p.done (l ∷ ended_behind [] more))
+answered_none m price lines steps out = record {
+  done = [];
+  split = refl;
+  writes = writes_nothing tt out;
+  least = omega arith;
+  most = omega arith;
+}
 
--- where no line ends in the rest
-pub done_all : (m : PlaneMap) (start piece front rest : List ℕ) (s t ahead : ℕ) (a b : Out) → (p : IsAnswered m start piece front rest s t ahead a b) → ended_behind front rest ≡ [] → ended_behind start piece ≡ p.done
-done_all m start piece front rest s t ahead a b p e = p.split ∙ ap (λ z. p.done ++ z) e ∙ append-nil p.done
+-- the next lines are answered
+pub answered_more : {X E : Type 0} (x : X) (m : PlaneMap) (price : List ℕ → ℕ) (lines left next others : List (List ℕ)) (s t u : ℕ) (a b c : Out)
+    → IsAnswered m price lines left s t a b → left ≡ next ++ others
+    → Writes {X = X} {E = E} (Ok x) b c (flat_map (answer m) next) → t + over_lines (found_by_reads m) next ≤ u → u ≤ t + over_lines price next
+    → IsAnswered m price lines others s u a c
+answered_more x m price lines left next others s t u a b c p e w least most = record {
+  done = p.done ++ next;
+  split = p.split ∙ ap (λ z. p.done ++ z) e ∙ sym (append_assoc p.done next others);
+  writes = rw (answers_more m p.done next) (writes_more tt (Ok tt) a b c (flat_map (answer m) p.done) (flat_map (answer m) next) p.writes (writes_ok x tt b c (flat_map (answer m) next) w));
+  least = omega (arith, p.least, least, over_more (found_by_reads m) p.done next);
+  most = omega (arith, p.most, most, over_more price p.done next);
+}
 
-pub answered_all : {X E : Type 0} (r : Result X E) (m : PlaneMap) (start piece front rest : List ℕ) (s t ahead : ℕ) (a b c : Out)
-    → IsAnswered m start piece front rest s t ahead a b → ended_behind front rest ≡ [] → Writes r b c [] → Writes r a c (flat_map (answer m) (ended_behind start piece))
-answered_all r m start piece front rest s t ahead a b c p e w =
-    rw (done_all m start piece front rest s t ahead a b p e, ← append-nil (flat_map (answer m) p.done)) (writes_more tt r a b c (flat_map (answer m) p.done) [] p.writes w)
+-- the first of them are answered, from a view of the map
+pub answered_first : {X E : Type 0} (x : X) (m served : PlaneMap) (lines first others : List (List ℕ)) (s t : ℕ) (a b : Out)
+    → served ≡ m → lines ≡ first ++ others
+    → Writes {X = X} {E = E} (Ok x) a b (flat_map (answer served) first) → s + over_lines (found_by_reads served) first ≤ t → t ≤ s + over_lines (words_of_line served) first
+    → IsAnswered m (words_of_line m) lines others s t a b
+answered_first {X = X} {E = E} x m served lines first others s t a b same e w least most =
+    answered_more {X = X} {E = E} x m (words_of_line m) lines lines first others s s t a a b (answered_none m (words_of_line m) lines s a) e
+    (same_bytes (Ok x) a b (flat_map (answer served) first) (flat_map (answer m) first) (ap (λ y. flat_map (answer y) first) same) w)
+    (omega (arith, ap (λ y. over_lines (found_by_reads y) first) same, least)) (omega (arith, ap (λ y. over_lines (words_of_line y) first) same, most))
 
-pub least_all : (m : PlaneMap) (start piece front rest : List ℕ) (s t ahead : ℕ) (a b : Out) → IsAnswered m start piece front rest s t ahead a b → ended_behind front rest ≡ []
-    → s + over_lines (found_by_reads m) (ended_behind start piece) ≤ t
-least_all m start piece front rest s t ahead a b p e = rw (done_all m start piece front rest s t ahead a b p e) p.least
+-- all that are left are answered
+pub answered_last : {X E : Type 0} (x : X) (m : PlaneMap) (price : List ℕ → ℕ) (lines left : List (List ℕ)) (s t u : ℕ) (a b c : Out)
+    → IsAnswered m price lines left s t a b
+    → Writes {X = X} {E = E} (Ok x) b c (flat_map (answer m) left) → t + over_lines (found_by_reads m) left ≤ u → u ≤ t + over_lines price left
+    → IsAnswered m price lines [] s u a c
+answered_last {X = X} {E = E} x m price lines left s t u a b c p w least most =
+    answered_more {X = X} {E = E} x m price lines left left [] s t u a b c p (sym (append-nil left)) w least most
 
-pub most_all : (m : PlaneMap) (start piece front rest : List ℕ) (s t ahead : ℕ) (a b : Out) → IsAnswered m start piece front rest s t ahead a b → ended_behind front rest ≡ []
-    → t ≤ s + over_lines (words_of_line m) (ended_behind start piece)
-most_all m start piece front rest s t ahead a b p e =
-    let none : ahead ≡ 0 = let count = ap length e in omega (arith, p.within, count) in
-    let nothing : ahead * words_ahead m ≡ 0 = ap (λ n. n * words_ahead m) none ∙ omega arith in
-    rw (done_all m start piece front rest s t ahead a b p e) (omega (arith, p.most, nothing))
+-- the same of one line
+pub answered_one : {X E : Type 0} (x : X) (m : PlaneMap) (price : List ℕ → ℕ) (lines left : List (List ℕ)) (l : List ℕ) (others : List (List ℕ)) (s t u : ℕ) (a b c : Out)
+    → IsAnswered m price lines left s t a b → left ≡ l ∷ others
+    → Writes {X = X} {E = E} (Ok x) b c (answer m l) → t + found_by_reads m l ≤ u → u ≤ t + price l
+    → IsAnswered m price lines others s u a c
+answered_one {X = X} {E = E} x m price lines left l others s t u a b c p e w least most =
+    answered_more {X = X} {E = E} x m price lines left (l ∷ []) others s t u a b c p e (rw (answers_one m l) w) (omega (arith, least, over_one (found_by_reads m) l)) (omega (arith, most, over_one price l))
+
+-- where writing the answers to the next lines failed
+pub answered_part : {X E Y F : Type 0} (r : Result X E) (P : E → Type 0) (f : F) (m : PlaneMap) (price : List ℕ → ℕ) (lines left next others : List (List ℕ)) (s t : ℕ) (a b c : Out)
+    → IsAnswered m price lines left s t a b → left ≡ next ++ others → IsErrAnd r P → Writes {X = Y} {E = F} (Err f) b c (flat_map (answer m) next)
+    → Writes r a c (flat_map (answer m) lines)
+answered_part r P f m price lines left next others s t a b c p e is w =
+    let all : flat_map (answer m) lines ≡ flat_map (answer m) p.done ++ (flat_map (answer m) next ++ flat_map (answer m) others) =
+    ap (flat_map (answer m)) (p.split ∙ ap (λ z. p.done ++ z) e) ∙ answers_more m p.done (next ++ others) ∙ ap (λ z. flat_map (answer m) p.done ++ z) (answers_more m next others) in
+    rw all (writes_more tt r a b c (flat_map (answer m) p.done) (flat_map (answer m) next ++ flat_map (answer m) others) p.writes
+    (writes_failed r P f b c (flat_map (answer m) next) (flat_map (answer m) others) is w))
+
+pub paid_part : (m : PlaneMap) (price : List ℕ → ℕ) (lines left next others : List (List ℕ)) (s t u : ℕ) (a b : Out)
+    → IsAnswered m price lines left s t a b → left ≡ next ++ others → u ≤ t + over_lines price next → u ≤ s + over_lines price lines
+paid_part m price lines left next others s t u a b p e most =
+    omega (arith, p.most, most, ap (over_lines price) (p.split ∙ ap (λ z. p.done ++ z) e), over_more price p.done (next ++ others), over_more price next others)
+
+-- the same of one line
+pub answered_one_part : {X E Y F : Type 0} (r : Result X E) (P : E → Type 0) (f : F) (m : PlaneMap) (price : List ℕ → ℕ) (lines left : List (List ℕ)) (l : List ℕ) (others : List (List ℕ)) (s t : ℕ) (a b c : Out)
+    → IsAnswered m price lines left s t a b → left ≡ l ∷ others → IsErrAnd r P → Writes {X = Y} {E = F} (Err f) b c (answer m l)
+    → Writes r a c (flat_map (answer m) lines)
+answered_one_part {Y = Y} {F = F} r P f m price lines left l others s t a b c p e is w =
+    answered_part {Y = Y} {F = F} r P f m price lines left (l ∷ []) others s t a b c p e is (rw (answers_one m l) w)
+
+pub paid_one_part : (m : PlaneMap) (price : List ℕ → ℕ) (lines left : List (List ℕ)) (l : List ℕ) (others : List (List ℕ)) (s t u : ℕ) (a b : Out)
+    → IsAnswered m price lines left s t a b → left ≡ l ∷ others → u ≤ t + price l → u ≤ s + over_lines price lines
+paid_one_part m price lines left l others s t u a b p e most =
+    paid_part m price lines left (l ∷ []) others s t u a b p e (omega (arith, most, over_one price l))
+
+-- where no line is left
+done_all : (m : PlaneMap) (price : List ℕ → ℕ) (lines left : List (List ℕ)) (s t : ℕ) (a b : Out) → (p : IsAnswered m price lines left s t a b) → left ≡ [] → lines ≡ p.done
+done_all m price lines left s t a b p e = p.split ∙ ap (λ z. p.done ++ z) e ∙ append-nil p.done
+
+pub answered_all : {X E : Type 0} (x : X) (m : PlaneMap) (price : List ℕ → ℕ) (lines left : List (List ℕ)) (s t : ℕ) (a b : Out)
+    → IsAnswered m price lines left s t a b → left ≡ [] → Writes {X = X} {E = E} (Ok x) a b (flat_map (answer m) lines)
+answered_all x m price lines left s t a b p e = rw (done_all m price lines left s t a b p e) (writes_ok tt x a b (flat_map (answer m) p.done) p.writes)
+
+-- and what was gathered is put
+pub answered_put : {X E : Type 0} (r : Result X E) (m : PlaneMap) (price : List ℕ → ℕ) (lines : List (List ℕ)) (s t : ℕ) (a b c : Out)
+    → IsAnswered m price lines [] s t a b → Writes r b c [] → Writes r a c (flat_map (answer m) lines)
+answered_put r m price lines s t a b c p w =
+    rw (done_all m price lines [] s t a b p refl, ← append-nil (flat_map (answer m) p.done)) (writes_more tt r a b c (flat_map (answer m) p.done) [] p.writes w)
+
+pub least_all : (m : PlaneMap) (price : List ℕ → ℕ) (lines left : List (List ℕ)) (s t : ℕ) (a b : Out) → IsAnswered m price lines left s t a b → left ≡ []
+    → s + over_lines (found_by_reads m) lines ≤ t
+least_all m price lines left s t a b p e = rw (done_all m price lines left s t a b p e) p.least
+
+pub most_all : (m : PlaneMap) (price : List ℕ → ℕ) (lines left : List (List ℕ)) (s t : ℕ) (a b : Out) → IsAnswered m price lines left s t a b → left ≡ []
+    → t ≤ s + over_lines price lines
+most_all m price lines left s t a b p e = rw (done_all m price lines left s t a b p e) p.most
 
 -- the last line, unless it is empty
 pub answers_last : (m : PlaneMap) (l : List ℕ) → (length l ≡ 0 → ⊥) → flat_map (answer m) (last_line l) ≡ answer m l

@@ -1,3 +1,4 @@
+pub mod Ahead
 pub mod Gathering
 pub mod Items
 pub mod Pieces

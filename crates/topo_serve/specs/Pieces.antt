@@ -20,6 +20,11 @@ unfoldable pub open_behind : List ℕ → List ℕ → List ℕ
 open_behind front [] = front
 open_behind front (b ∷ bytes) = if b == 10 then open_behind [] bytes else open_behind (front ++ b ∷ []) bytes
 
+-- the line whose front is kept, where it ends in these bytes
+abbrev pub front_ended : List ℕ → List ℕ → List (List ℕ)
+front_ended [] bytes = []
+front_ended (b ∷ front) bytes = take 1 (ended_behind (b ∷ front) bytes)
+
 -- the first of these bytes are no line feeds
 abbrev pub HasNoFeed : ℕ → List ℕ → Type 0
 HasNoFeed end bytes = (k : ℕ) → k < end → slice_index bytes k ≢ 10

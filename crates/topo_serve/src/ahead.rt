@@ -1,16 +1,58 @@
-//! The lines to come, whose ids are looked up together.
+//! The lines to come: they are read ahead, and their ids are looked up together.
 
-ghost use Rattle.std.specs.Prelude.{ℕ, ◌≡◌, ◌<◌, ◌≤◌, ◌+◌, ◌*◌, List, [], length, IsSome, IsNone};
+ghost use Rattle.std.specs.Prelude.{◌≡◌, ◌<◌, ◌≤◌, ◌+◌, ◌*◌, [], length};
 ghost use Rattle.pemb_file.specs.OpenFile.{contents_of_file};
 ghost use Rattle.navigate.specs.Bound.{map_with, words_ahead};
-ghost use Rattle.topo_serve.specs.Pieces.{ended_behind};
+ghost use Rattle.topo_serve.specs.Ahead.{AreNext};
+ghost use Rattle.topo_serve.specs.Pieces.{HasNoFeed};
 
 use crate::line::line_end;
+use arrayvec::ArrayVec;
 use bit_words::Steps;
 use navigate::look_ahead;
 use pemb_file::{IdsAhead, OpenFile};
 use query_text::{Query, read_line};
 use std::sync::ledger::Ledger;
+
+/// How many lines are read ahead: as many as have their ids looked up together.
+const AHEAD: usize = 4;
+
+/// A line to come: how many bytes it has before its line feed, and what it says.
+#[derive(Clone, Copy)]
+pub(crate) struct LineAhead {
+    pub(crate) end: usize,
+    pub(crate) query: Query,
+}
+
+impl Default for LineAhead {
+    fn default() -> Self {
+        LineAhead {
+            end: 0,
+            query: Query::Blank,
+        }
+    }
+}
+
+/// The next lines, in their order.
+pub(crate) type LinesAhead = ArrayVec<LineAhead, AHEAD>;
+
+/// Reads the next lines that end in these bytes, as many as are read ahead.
+pub(crate) fn lines_ahead(script: &[u8]) -> LinesAhead
+    ensures next { AreNext result.items script.now }
+    ensures none { result.items ≡ [] → HasNoFeed (length script.now) script.now }
+{
+    let mut lines = LinesAhead::new();
+    let mut rest = script;
+    while !lines.is_full() {
+        let Some(end) = line_end(rest) else {
+            return lines;
+        };
+        let query = read_line(&rest[..end]);
+        lines.push(LineAhead { end, query });
+        rest = &rest[end + 1..];
+    }
+    lines
+}
 
 /// Puts the id that a query names with those of its kind.
 fn put_down(ids: &mut IdsAhead, place: usize, query: Query)
@@ -30,48 +72,28 @@ fn put_down(ids: &mut IdsAhead, place: usize, query: Query)
     }
 }
 
-/// The ids that the first four lines name. None where fewer end in these bytes.
-fn ids_ahead(script: &[u8]) -> Option<IdsAhead>
-    ensures some { IsSome result → 4 ≤ length (ended_behind [] script.now) }
-    ensures none { IsNone result → length (ended_behind [] script.now) < 4 }
+/// The ids that lines name.
+fn ids_of(lines: &[LineAhead]) -> IdsAhead
+    requires { length lines.now ≤ 4 }
 {
     let mut ids = IdsAhead {
         nodes: [None; 4],
         edges: [None; 4],
         faces: [None; 4],
     };
-    let mut rest = script;
-    for place in 0..4 {
-        let end = line_end(rest)?;
-        put_down(&mut ids, place, read_line(&rest[..end]));
-        rest = &rest[end + 1..];
+    for (place, line) in lines.iter().enumerate() {
+        put_down(&mut ids, place, line.query);
     }
-    Some(ids)
+    ids
 }
 
-/// Keeps lines looked up ahead: how many there are, where so many were. The lines to come stand in these bytes, and
-/// four of them are looked up together as soon as none is.
-pub(crate) fn keep_ahead<C: Ledger>(
-    file: &mut OpenFile<'_>,
-    lines: usize,
-    script: &[u8],
-    steps: &mut Steps<C>,
-) -> usize
+/// Looks up the ids of lines to come together. Where fewer have come than are read ahead, each line looks up its own.
+pub(crate) fn look_up<C: Ledger>(file: &mut OpenFile<'_>, lines: &LinesAhead, steps: &mut Steps<C>)
     ensures contents { contents_of_file file.new ≡ contents_of_file file.old }
-    ensures within { lines ≤ length (ended_behind [] script.now) → result ≤ length (ended_behind [] script.now) }
-    ensures none { result ≡ 0 → length (ended_behind [] script.now) < 4 }
     ensures grows { steps.old ≤ steps.new }
-    ensures paid { steps.new + lines * words_ahead (map_with (contents_of_file file.old))
-        ≤ steps.old + result * words_ahead (map_with (contents_of_file file.old)) }
+    ensures paid { steps.new ≤ steps.old + length lines.now.items * words_ahead (map_with (contents_of_file file.old)) }
 {
-    if lines > 0 {
-        return lines;
-    }
-    match ids_ahead(script) {
-        Some(ids) => {
-            look_ahead(file, &ids, steps);
-            4
-        }
-        None => 0,
+    if lines.is_full() {
+        look_ahead(file, &ids_of(lines.as_slice()), steps);
     }
 }

@@ -427,7 +427,36 @@ fn answer_query<K: Sink, C: Ledger>(
     gather(out, text, b"\n")
 }
 
-/// The answer to a line, given without its line feed.
+/// The answer to a line, given without its line feed, that says this.
+pub(crate) fn answer_read<K: Sink, C: Ledger>(
+    served: &Served<'_>,
+    line: &[u8],
+    query: &Query,
+    marks: &mut Marks<'_>,
+    out: &mut K,
+    text: &mut Gathered,
+    steps: &mut Steps<C>,
+) -> Result<(), Failed>
+    requires said { line_of query.now ≡ line_said line.now }
+    requires room { length (contents_of_view served.now).faces < room_of marks.old }
+    requires empty { IsEmpty marks.old }
+    ensures room { room_of marks.new ≡ room_of marks.old }
+    ensures empty { IsEmpty marks.new }
+    ensures writes { Writes result (out_at (K.held out.old) (K.faults out.old) text.old.items)
+        (out_at (K.held out.new) (K.faults out.new) text.new.items) (answer (served_map served.now) line.now) }
+    ensures least { OnOk result (steps.old + found_by_reads (served_map served.now) line.now ≤ steps.new) }
+    ensures grows { steps.old ≤ steps.new }
+    ensures paid { steps.new ≤ steps.old + words_to_answer (served_map served.now) line.now }
+{
+    match *query {
+        Query::Blank => Ok(()),
+        Query::Bad => gather(out, text, b"bad\n"),
+        Query::Long => gather(out, text, b"long\n"),
+        _ => answer_query(served, line, query, marks, out, text, steps),
+    }
+}
+
+/// Reads a line, given without its line feed, and answers it.
 pub(crate) fn answer_line<K: Sink, C: Ledger>(
     served: &Served<'_>,
     line: &[u8],
@@ -446,10 +475,6 @@ pub(crate) fn answer_line<K: Sink, C: Ledger>(
     ensures grows { steps.old ≤ steps.new }
     ensures paid { steps.new ≤ steps.old + words_to_answer (served_map served.now) line.now }
 {
-    match read_line(line) {
-        Query::Blank => Ok(()),
-        Query::Bad => gather(out, text, b"bad\n"),
-        Query::Long => gather(out, text, b"long\n"),
-        query => answer_query(served, line, &query, marks, out, text, steps),
-    }
+    let query = read_line(line);
+    answer_read(served, line, &query, marks, out, text, steps)
 }
