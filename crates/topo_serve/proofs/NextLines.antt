@@ -3,7 +3,7 @@ use Rattle.std.proofs.Common.{◌≡◌, ℕ, ◌+◌, ◌≤◌, ◌<◌, List,
 use Rattle.std.proofs.Math.Seq.{drop-length}
 use Rattle.std.proofs.lemmas.List.{drop_more}
 use Rattle.topo_serve.specs.Ahead.{texts, behind, IsNext, AreNext}
-use Rattle.topo_serve.specs.Pieces.{ended_behind, open_behind}
+use Rattle.topo_serve.specs.Pieces.{ended_behind, open_behind, HasNoFeed}
 use Rattle.topo_serve.specs.declared.ahead.LineAhead.{LineAhead}
 use Rattle.topo_serve.proofs.Ending.{first_ended, open_after}
 
@@ -53,6 +53,10 @@ no_lines (l ∷ ls) none = absurd (omega (arith, none))
 pub no_behind : (ls : List LineAhead) (bytes : List ℕ) → ls ≡ [] → behind ls bytes ≡ bytes
 unfolding behind
 no_behind ls bytes e = ap (λ z. behind z bytes) e
+
+-- where none were read since no line ends
+pub none_left : (ls : List LineAhead) (bytes : List ℕ) → ls ≡ [] → HasNoFeed (length (behind ls bytes)) (behind ls bytes) → HasNoFeed (length bytes) bytes
+none_left ls bytes e feedless = subst (λ (z : List ℕ). HasNoFeed (length z) z) (no_behind ls bytes e) feedless
 
 pub no_texts : (ls : List LineAhead) (bytes : List ℕ) → ls ≡ [] → texts ls bytes ≡ []
 unfolding texts

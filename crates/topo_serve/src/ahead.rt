@@ -1,9 +1,9 @@
 //! The lines to come: they are read ahead, and their ids are looked up together.
 
-ghost use Rattle.std.specs.Prelude.{◌≡◌, ◌<◌, ◌≤◌, ◌+◌, ◌*◌, [], length};
+ghost use Rattle.std.specs.Prelude.{◌≡◌, ◌<◌, ◌≤◌, ◌+◌, ◌*◌, length};
 ghost use Rattle.pemb_file.specs.OpenFile.{contents_of_file};
 ghost use Rattle.navigate.specs.Bound.{map_with, words_ahead};
-ghost use Rattle.topo_serve.specs.Ahead.{AreNext};
+ghost use Rattle.topo_serve.specs.Ahead.{AreNext, behind};
 ghost use Rattle.topo_serve.specs.Pieces.{HasNoFeed};
 
 use crate::line::line_end;
@@ -36,10 +36,11 @@ impl Default for LineAhead {
 /// The next lines, in their order.
 pub(crate) type LinesAhead = ArrayVec<LineAhead, AHEAD>;
 
-/// Reads the next lines that end in these bytes, as many as are read ahead.
+/// Reads the next lines that end in these bytes, as many as are read ahead, or all.
 pub(crate) fn lines_ahead(script: &[u8]) -> LinesAhead
     ensures next { AreNext result.items script.now }
-    ensures none { result.items ≡ [] → HasNoFeed (length script.now) script.now }
+    ensures few { length result.items < AHEAD → let left = behind result.items script.now in
+        HasNoFeed (length left) left }
 {
     let mut lines = LinesAhead::new();
     let mut rest = script;

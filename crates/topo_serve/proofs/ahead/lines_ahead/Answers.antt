@@ -1,4 +1,4 @@
-use Rattle.std.proofs.Common.{ℕ, ◌+◌, List, length, length-drop, subst, sym, ◌∙◌, arith}
+use Rattle.std.proofs.Common.{ℕ, ◌+◌, List, length, length-drop, subst, sym, arith}
 use Rattle.std.proofs.lemmas.List.{take_rest}
 use Rattle.topo_serve.specs.Pieces.{HasNoFeed}
 use Rattle.topo_serve.proofs.NextLines.{none_next, no_behind, next_more, behind_more}
@@ -11,10 +11,8 @@ loop-rest-init c = record {
   within = omega arith;
 }
 
-pub returns-in_default-clause-none : goal.returns-in_default-clause-none
-returns-in_default-clause-none c none =
-    let same = sym c.loop-rest.invariant.left ∙ no_behind c.loop-rest.lines.items c.args.script.now none in
-    subst (λ (bytes : List ℕ). HasNoFeed (length bytes) bytes) same c.in_default.ensures
+pub returns-in_default-clause-few : goal.returns-in_default-clause-few
+returns-in_default-clause-few c few = subst (λ (bytes : List ℕ). HasNoFeed (length bytes) bytes) (sym c.loop-rest.invariant.left) c.in_default.ensures
 
 pub loop-rest-preserved : goal.loop-rest-preserved
 loop-rest-preserved c =

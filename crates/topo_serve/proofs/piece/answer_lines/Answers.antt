@@ -5,7 +5,7 @@ use Rattle.topo_serve.specs.Ahead.{AreNext, texts}
 use Rattle.topo_serve.specs.Serving.{found_by_reads, over_lines}
 use Rattle.topo_serve.proofs.Answering.{same_bytes}
 use Rattle.topo_serve.proofs.Ending.{all_open, none_ended}
-use Rattle.topo_serve.proofs.NextLines.{as_many_texts, behind_shorter, ended_ahead, no_lines, open_ahead}
+use Rattle.topo_serve.proofs.NextLines.{as_many_texts, behind_shorter, ended_ahead, no_lines, none_left, open_ahead}
 use Rattle.topo_serve.proofs.Piecing.{answered_none, answered_more, answered_part, paid_ahead, paid_part, answered_all, least_all, most_all}
 use Rattle.topo_serve.proofs.piece.answer_lines.Goals as goal
 
@@ -21,22 +21,26 @@ loop-lines-init g c = record {
 
 pub returns-then-is_empty-clause-writes : goal.returns-then-is_empty-clause-writes
 returns-then-is_empty-clause-writes g c =
-    let feedless = c.lines_ahead-lines.ensures.none (no_lines c.lines_ahead-lines.result.items (search rules)) in
+    let none : c.lines_ahead-lines.result.items ≡ [] = no_lines c.lines_ahead-lines.result.items (search rules) in
+    let feedless = none_left c.lines_ahead-lines.result.items c.loop-lines.rest.now none (c.lines_ahead-lines.ensures.few (omega (arith, ap length none))) in
     answered_all _ _ _ _ _ _ _ _ _ c.loop-lines.invariant.answered (none_ended [] c.loop-lines.rest.now feedless)
 
 pub returns-then-is_empty-clause-open : goal.returns-then-is_empty-clause-open
 returns-then-is_empty-clause-open g c =
-    let feedless = c.lines_ahead-lines.ensures.none (no_lines c.lines_ahead-lines.result.items (search rules)) in
+    let none : c.lines_ahead-lines.result.items ≡ [] = no_lines c.lines_ahead-lines.result.items (search rules) in
+    let feedless = none_left c.lines_ahead-lines.result.items c.loop-lines.rest.now none (c.lines_ahead-lines.ensures.few (omega (arith, ap length none))) in
     sym (c.loop-lines.invariant.opens ∙ all_open [] c.loop-lines.rest.now feedless)
 
 pub returns-then-is_empty-clause-least : goal.returns-then-is_empty-clause-least
 returns-then-is_empty-clause-least g c =
-    let feedless = c.lines_ahead-lines.ensures.none (no_lines c.lines_ahead-lines.result.items (search rules)) in
+    let none : c.lines_ahead-lines.result.items ≡ [] = no_lines c.lines_ahead-lines.result.items (search rules) in
+    let feedless = none_left c.lines_ahead-lines.result.items c.loop-lines.rest.now none (c.lines_ahead-lines.ensures.few (omega (arith, ap length none))) in
     least_all _ _ _ _ _ _ _ _ c.loop-lines.invariant.answered (none_ended [] c.loop-lines.rest.now feedless)
 
 pub returns-then-is_empty-clause-paid : goal.returns-then-is_empty-clause-paid
 returns-then-is_empty-clause-paid g c =
-    let feedless = c.lines_ahead-lines.ensures.none (no_lines c.lines_ahead-lines.result.items (search rules)) in
+    let none : c.lines_ahead-lines.result.items ≡ [] = no_lines c.lines_ahead-lines.result.items (search rules) in
+    let feedless = none_left c.lines_ahead-lines.result.items c.loop-lines.rest.now none (c.lines_ahead-lines.ensures.few (omega (arith, ap length none))) in
     most_all _ _ _ _ _ _ _ _ c.loop-lines.invariant.answered (none_ended [] c.loop-lines.rest.now feedless)
 
 pub returns-in_err-rest-clause-writes : goal.returns-in_err-rest-clause-writes
