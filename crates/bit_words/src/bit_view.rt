@@ -49,6 +49,17 @@ impl<'a> BitView<'a> {
         self.words.word(i / 64, steps) >> (i % 64) & 1 == 1
     }
 
+    /// Word `j` as it stands: the 64 bits from `64 * j` on, and from the end of the list on any bits, by one step.
+    #[inline]
+    pub fn word<C: Ledger>(&self, j: usize, steps: &mut Steps<C>) -> u64
+        requires { 64 * j < length (bits_of self.now) }
+        ensures bits { (k : ℕ) → 64 * j + k < length (bits_of self.now) → k < 64
+            → is_set result k ≡ slice_index_or (bits_of self.now) (64 * j + k) false }
+        ensures one_step { steps.new ≡ steps.old + 1 }
+    {
+        self.words.word(j, steps)
+    }
+
     /// Word `j`: the 64 bits from `64 * j` on, with 0 from the end of the list on, by one step.
     #[inline]
     pub fn chunk<C: Ledger>(&self, j: usize, steps: &mut Steps<C>) -> u64

@@ -78,6 +78,17 @@ impl<'a> PackedView<'a> {
         }
     }
 
+    /// Number `i`, of numbers of 32 bits, by one step.
+    #[inline]
+    pub fn half_word<C: Ledger>(&self, i: usize, steps: &mut Steps<C>) -> u64
+        requires within { i < length (fields_of self.now) }
+        requires width { width_of self.now ≡ 32 }
+        ensures field { result ≡ slice_index (fields_of self.now) i }
+        ensures one_step { steps.new ≡ steps.old + 1 }
+    {
+        self.words.bits_from(32 * i, 32, steps)
+    }
+
     /// Number `i` of any width, from the one word or the two that it stands in, read one by one.
     #[inline]
     fn wide_field<C: Ledger>(&self, i: usize, steps: &mut Steps<C>) -> u64

@@ -51,6 +51,20 @@ fn bit_and_chunk<C: Ledger>(
     Some((bits.bit(i, &mut steps), bits.chunk(i / 64, &mut steps)))
 }
 
+/// The first word of the first `len` bits of these bytes, as it stands.
+fn first_word<C: Ledger>(alloc: Global, bytes: &[u8], len: usize, blank: Blank) -> Option<u64>
+    requires name { blank.name ≡ C.name }
+    requires parts { blank.parts ≡ C.parts }
+    requires some { 0 < blank.parts }
+{
+    let mut steps = Steps::<C>::new(alloc, blank);
+    let words = WordView::new(bytes)?;
+    if len == 0 || len.div_ceil(64) > words.len() {
+        return None;
+    }
+    Some(BitView::new(words, len).word(0, &mut steps))
+}
+
 /// Number `i` of `count` numbers of `width` bits.
 fn number<C: Ledger>(
     alloc: Global,
@@ -75,6 +89,9 @@ fn number<C: Ledger>(
     let numbers = PackedView::new(words, count as usize, width);
     if i >= numbers.count() {
         return None;
+    }
+    if numbers.width() == 32 {
+        return Some(numbers.half_word(i, &mut steps));
     }
     Some(numbers.field(i, &mut steps))
 }
@@ -106,6 +123,23 @@ fn a_chunk_ends_with_the_bits(rt: HostRuntime) {
     assert_eq!(rt;
         bit_and_chunk::<Brand>(rt.alloc(), &bytes, 70, 69, Blank::new(1)),
         Some((true, 63))
+    );
+}
+
+#[test]
+fn a_word_stands_as_it_is(rt: HostRuntime) {
+    let bytes = [2, 0, 0, 0, 7, 0, 0, 1];
+    assert_eq!(rt;
+        first_word::<Brand>(rt.alloc(), &bytes, 3, Blank::new(1)),
+        Some(72057624102699010)
+    );
+    assert_eq!(rt;
+        number::<Brand>(rt.alloc(), &bytes, 2, 32, 0, Blank::new(1)),
+        Some(2)
+    );
+    assert_eq!(rt;
+        number::<Brand>(rt.alloc(), &bytes, 2, 32, 1, Blank::new(1)),
+        Some(16777223)
     );
 }
 

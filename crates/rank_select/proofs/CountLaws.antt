@@ -59,6 +59,10 @@ ones_shift xs ys from (suc m) h =
 pub ones_of_chunk : (bits : List Bool) (word j m : ℕ) → ((k : ℕ) → k < 64 → is_set word k ≡ get_or bits (64 * j + k) false) → m ≤ 64 → rank true bits (64 * j) + rank true (word_bits word) m ≡ rank true bits (64 * j + m)
 ones_of_chunk bits word j m h l = sym (ones_shift bits (word_bits word) (64 * j) m (λ k p. sym (h k (omega arith)) ∙ sym (get_or-word_bits word k false (omega arith))))
 
+-- and by a word of which only the bits in the list are known
+pub ones_of_front : (bits : List Bool) (word j m : ℕ) → ((k : ℕ) → 64 * j + k < length bits → k < 64 → is_set word k ≡ get_or bits (64 * j + k) false) → m ≤ 64 → 64 * j + m ≤ length bits → rank true bits (64 * j) + rank true (word_bits word) m ≡ rank true bits (64 * j + m)
+ones_of_front bits word j m h l within = sym (ones_shift bits (word_bits word) (64 * j) m (λ k p. sym (h k (omega arith) (omega arith)) ∙ sym (get_or-word_bits word k false (omega arith))))
+
 -- a field of 32 bits stands in one word
 pub one_word : (i w : ℕ) → w ≡ 32 → i * w % 64 + w ≤ 64
 one_word i w e = rw e (omega arith)
@@ -91,6 +95,8 @@ pub some_block : (kind : Bool) (bits : List Bool) (j : ℕ) → j < rank kind bi
 some_block kind bits j h = omega (arith, rank-le kind bits (length bits))
 
 pub ruleset chunks = (length-counts_of, get_or-counts_of, rank-le, rank_both, ones_of_chunk, one_word, rank_block)
+
+pub ruleset fronts = (length-counts_of, get_or-counts_of, rank-le, rank_both, ones_of_front)
 
 pub ruleset kinds = (length-counts_of, get_or-counts_of, rank-le, zeros_before, rank_blocks, some_block, rank-zero)
 

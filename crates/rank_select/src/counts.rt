@@ -29,6 +29,27 @@ pub(crate) fn ones_in_words<C: Ledger>(
     ones
 }
 
+/// How many ones stand in the words `from` to before `to`, all of whose bits are in the list.
+#[tactic(auto, using(crate::proofs::CountLaws::fronts))]
+pub(crate) fn ones_in_whole_words<C: Ledger>(
+    bits: &BitView<'_>,
+    from: usize,
+    to: usize,
+    steps: &mut Steps<C>,
+) -> usize
+    requires few { length (bits_of bits.now) ≤ 2147483647 }
+    requires order { from ≤ to }
+    requires within { 64 * to ≤ length (bits_of bits.now) }
+    ensures ones { rank true (bits_of bits.now) (64 * from) + result ≡ rank true (bits_of bits.now) (64 * to) }
+    ensures steps { steps.new ≡ steps.old + (to - from) }
+{
+    let mut ones = 0;
+    for word in from..to {
+        ones += ones_below(bits.word(word, steps), 64) as usize;
+    }
+    ones
+}
+
 /// The count at block `block`, by one step.
 #[inline]
 #[tactic(auto, using(crate::proofs::CountLaws::chunks))]
@@ -42,5 +63,5 @@ pub(crate) fn count_at<C: Ledger>(
     ensures count { result ≡ slice_index (fields_of counts.now) block }
     ensures one_step { steps.new ≡ steps.old + 1 }
 {
-    counts.field(block, steps) as usize
+    counts.half_word(block, steps) as usize
 }

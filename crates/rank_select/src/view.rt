@@ -6,7 +6,7 @@ ghost use Rattle.bit_words.specs.BitView.{bits_of};
 ghost use Rattle.bit_words.specs.PackedView.{fields_of, width_of};
 ghost use Rattle.rank_select.specs.Counts.{counts_of};
 
-use crate::counts::{count_at, ones_in_words};
+use crate::counts::{count_at, ones_in_whole_words};
 use bit_words::{BitView, PackedView, Steps, ones_below, place_of_one};
 use std::sync::ledger::Ledger;
 
@@ -72,7 +72,7 @@ impl<'a> RankView<'a> {
     }
 
     /// How many ones stand before place `i`.
-    #[tactic(auto, using(crate::proofs::CountLaws::chunks))]
+    #[tactic(auto, using(crate::proofs::CountLaws::fronts))]
     pub fn rank1<C: Ledger>(&self, i: usize, steps: &mut Steps<C>) -> usize
         requires { i ≤ length (counted self.now) }
         ensures rank { result ≡ rank true (counted self.now) i }
@@ -82,11 +82,11 @@ impl<'a> RankView<'a> {
         let block = i / 512;
         let word = i / 64;
         let ones = count_at(&self.counts, block, steps)
-            + ones_in_words(&self.bits, 8 * block, word, steps);
+            + ones_in_whole_words(&self.bits, 8 * block, word, steps);
         if i % 64 == 0 {
             ones
         } else {
-            ones + ones_below(self.bits.chunk(word, steps), (i % 64) as u32) as usize
+            ones + ones_below(self.bits.word(word, steps), (i % 64) as u32) as usize
         }
     }
 
