@@ -38,8 +38,8 @@ fn settle<'a, C: Ledger>(
     if let Some(_next) = ring.peek() {
         return;
     }
-    let start = start_at(served, *hole, steps);
-    *ring = OrbitWalk::from(served, false, start);
+    let (start, component) = start_at(served, *hole, steps);
+    *ring = OrbitWalk::from(served, false, start, component);
     *hole += 1;
 }
 
@@ -135,7 +135,7 @@ impl<'a> FaceWalk<'a> {
         ensures some_steps { steps.old + 1 ≤ steps.new }
         ensures cost { steps.new ≤ steps.old + (13 * line_digits (contents_in self.now) + 123) }
     {
-        positions::place_across(self.served, p, steps)
+        positions::place_across(self.served, p, self.ring.component(), steps)
     }
 
     /// The face at a place.

@@ -69,7 +69,7 @@ impl<'a> IslandWalk<'a> {
         ensures paid { steps.new + allowance self.new ≤ steps.old + allowance self.old }
     {
         if self.hole < self.end {
-            let start = start_at(self.served, self.hole, steps);
+            let (start, _component) = start_at(self.served, self.hole, steps);
             self.hole += 1;
             return Some(Island::Edge(positions::edge_at(self.served, start, steps)));
         }

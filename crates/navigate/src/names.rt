@@ -105,7 +105,7 @@ pub fn face_across<C: Ledger>(served: Served<'_>, p: usize, steps: &mut Steps<C>
     ensures some_steps { steps.old + 1 ≤ steps.new }
     ensures cost { steps.new ≤ steps.old + (16 * line_digits (contents_of_view served.entry) + 143) }
 {
-    let place = place_across(served, p, steps);
+    let place = place_across(served, p, 0, steps);
     face_in(served, place, steps)
 }
 

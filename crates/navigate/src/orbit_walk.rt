@@ -26,6 +26,8 @@ pub struct OrbitWalk<'a> {
     at: usize,
     /// How many positions may be left: none at the end.
     left: usize,
+    /// Where its component is looked for first: a walk stays in one.
+    component: usize,
     /// What stands at the first positions that it came by.
     kept: KeptStops,
     ghost within: { 0 < left → at < length (contents_of_view served).code.a },
@@ -51,8 +53,8 @@ impl<'a> OrbitWalk<'a> {
     ghost use Rattle.navigate.specs.OrbitWalk.{contents_in, positions_left, rest, price, allowance};
     ghost use Rattle.navigate.specs.Ranked.{IsRankOf};
 
-    /// The walk that begins at a position and ends before it.
-    pub(crate) fn from(served: Served<'a>, kind: bool, p: usize) -> OrbitWalk<'a>
+    /// The walk that begins at a position, which may be in this component, and ends before it.
+    pub(crate) fn from(served: Served<'a>, kind: bool, p: usize, component: usize) -> OrbitWalk<'a>
         requires { p < length (contents_of_view served).code.a }
         ensures contents { contents_in result ≡ contents_of_view served.entry }
         ensures kind { result.kind ≡ kind }
@@ -64,6 +66,7 @@ impl<'a> OrbitWalk<'a> {
             first: p,
             at: p,
             left: served.code().len(),
+            component,
             kept: KeptStops::none(),
         }
     }
@@ -82,6 +85,7 @@ impl<'a> OrbitWalk<'a> {
             first: p,
             at: p,
             left: self.served.code().len(),
+            component: self.component,
             kept,
         }
     }
@@ -97,6 +101,7 @@ impl<'a> OrbitWalk<'a> {
             first: 0,
             at: 0,
             left: 0,
+            component: 0,
             kept: KeptStops::none(),
         }
     }
@@ -109,6 +114,14 @@ impl<'a> OrbitWalk<'a> {
             (λ p. positions_left self.now ≡ p ∷ drop 1 (positions_left self.now)) }
     {
         if self.left == 0 { None } else { Some(self.at) }
+    }
+
+    /// The component in which the next position may be.
+    #[inline]
+    pub(crate) fn component(&self) -> usize
+        ensures { result ≡ self.now.component }
+    {
+        self.component
     }
 
     /// Goes on to this position, which comes after the next one, or to the end where it is the first again.
@@ -141,9 +154,10 @@ impl<'a> OrbitWalk<'a> {
         ensures cost { steps.new ≤ steps.old + (9 * line_digits (contents_in self.old) + 65) }
     {
         let p = self.at;
+        let code = self.served.code();
         match self.kept.pass(p) {
-            Some(kept) => self.served.code().after(kept.over as usize, steps),
-            None => positions::step_from(self.served, self.kind, p, steps),
+            Some(kept) => code.after(kept.over as usize, &mut self.component, steps),
+            None => code.step(self.kind, p, &mut self.component, steps),
         }
     }
 
@@ -185,10 +199,10 @@ impl<'a> OrbitWalk<'a> {
                 edge: kept.edge,
                 is_first: kept.is_first,
                 over,
-                next: code.after(over, steps),
+                next: code.after(over, &mut self.component, steps),
             };
         }
-        let stop = code.stop(self.kind, p, steps);
+        let stop = code.stop(self.kind, p, &mut self.component, steps);
         self.kept.keep(p, stop);
         stop
     }

@@ -111,19 +111,24 @@ pub fn isolated_to<C: Ledger>(
     isolated_below(served, place + 1, steps)
 }
 
-/// The first position of the component at entry `j` of the order.
-pub fn start_at<C: Ledger>(served: Served<'_>, j: usize, steps: &mut Steps<C>) -> usize
+/// The first position of the component at entry `j` of the order, and which component it is.
+pub fn start_at<C: Ledger>(
+    served: Served<'_>,
+    j: usize,
+    steps: &mut Steps<C>,
+) -> (usize, usize)
     requires { j < length (contents_of_view served).place_order }
-    ensures start { result ≡ start_of (contents_of_view served.entry).code
+    ensures start { result.0 ≡ start_of (contents_of_view served.entry).code
         (slice_index (contents_of_view served.entry).place_order j) }
-    ensures within { result < length (contents_of_view served.entry).code.a }
+    ensures within { result.0 < length (contents_of_view served.entry).code.a }
+    ensures component { result.1 ≡ slice_index (contents_of_view served.entry).place_order j }
     ensures some_steps { steps.old + 1 ≤ steps.new }
-    ensures cost { steps.new ≤ steps.old + 4 }
+    ensures cost { steps.new ≤ steps.old + 3 }
 {
     let code = served.code();
     let component = served.place_order(j, steps);
     match code.start_of(component, steps) {
-        Some(start) => start,
+        Some(start) => (start, component as usize),
         None => unreachable!(),
     }
 }

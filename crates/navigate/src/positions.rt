@@ -149,14 +149,20 @@ pub fn place_beside<C: Ledger>(served: Served<'_>, p: usize, steps: &mut Steps<C
     place_of_ring(served, ring, steps)
 }
 
-/// The place of the face across the edge at a position: that of the face on the left of its mate.
-pub fn place_across<C: Ledger>(served: Served<'_>, p: usize, steps: &mut Steps<C>) -> usize
+/// The place of the face across the edge at a position, which may be in this component: that of the face on the left of
+/// its mate.
+pub fn place_across<C: Ledger>(
+    served: Served<'_>,
+    p: usize,
+    component: usize,
+    steps: &mut Steps<C>,
+) -> usize
     requires { p < length (contents_of_view served).code.a }
     ensures place { result ≡ place_across (contents_of_view served.entry) p }
     ensures within { result ≤ length (contents_of_view served.entry).faces }
     ensures some_steps { steps.old + 1 ≤ steps.new }
     ensures cost { steps.new ≤ steps.old + (13 * line_digits (contents_of_view served.entry) + 123) }
 {
-    let ring = served.code().ring_across(p, steps);
+    let ring = served.code().ring_across(p, component, steps);
     place_of_ring(served, ring, steps)
 }

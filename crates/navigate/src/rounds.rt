@@ -72,7 +72,7 @@ pub fn ring_walk<'a, C: Ledger>(
         (length (rest w))) }
 {
     match positions::position_of(served, edge, steps) {
-        Some(p) => Some(OrbitWalk::from(served, false, p)),
+        Some(p) => Some(OrbitWalk::from(served, false, p, 0)),
         None => None,
     }
 }

@@ -30,7 +30,7 @@ pub(crate) fn begun_at_smallest<'a, C: Ledger>(
 {
     let edges = served.edges();
     let _count = edges.count();
-    let mut walk = OrbitWalk::from(served, kind, p);
+    let mut walk = OrbitWalk::from(served, kind, p, 0);
     let Some(mut best) = walk.ranked(edges, steps) else {
         unreachable!()
     };

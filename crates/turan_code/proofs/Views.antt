@@ -3,12 +3,12 @@ use Rattle.std.specs.Prelude.{option_map, unwrap_or, if◌then◌else◌, IfSome
 use Rattle.std.specs.Option.{option_and_then}
 use Rattle.std.proofs.Common.{◌≡◌, ℕ, zero, suc, ◌+◌, ◌-◌, ◌*◌, ◌<◌, ◌≤◌, inl, inr, Bool, true, false, List, length, refl, ap, sym, ◌∙◌, arith, subst, Option, Some, None}
 use Rattle.std.proofs.lemmas.Bool.{lt-ltb, le-ltb, cases_lt}
-use Rattle.bit_words.specs.Bits.{rank, select, IsSelected}
+use Rattle.bit_words.specs.Bits.{rank, select, same, IsSelected}
 use Rattle.bit_words.specs.Digits.{digits}
 use Rattle.bit_words.proofs.DigitLaws.{digits-halved, digits-mono}
 use Rattle.rank_select.proofs.Selects.{selected}
 use Rattle.parens.specs.Matching.{is_open, mate_of, pair_number, innermost}
-use Rattle.code_laws.specs.Code.{Code, is_tree, is_first, parens, place, mate, after, component_of, component_count, start_of, end_of}
+use Rattle.code_laws.specs.Code.{Code, is_tree, is_first, parens, place, mate, over, after, component_of, component_count, start_of, end_of}
 use Rattle.code_laws.specs.Numbers.{edge_of, node_of, ring_of, node_or_root, shell_or_outer, enclosing_pair, tree_edges, first_of_edge, first_of_node, first_of_shell, opening_position, one_on, edge_count, node_count, shell_count}
 use Rattle.code_laws.specs.SeqFault.{is_sound}
 use Rattle.code_laws.specs.declared.ring_number.RingNumber.TheVariants.{Outer, Shell}
@@ -64,6 +64,17 @@ module _ (c : Code) (h : is_sound c ≡ true) where
 
   pub mate_within : (p : ℕ) → p < length c.a → mate c p < length c.a
   mate_within p l = (laws c (sound_parts c h) p l).within
+
+  -- the mate of a position is in its component
+  pub mate_component : (p : ℕ) → p < length c.a → component_of c (mate c p) ≡ component_of c p
+  mate_component p l = (laws c (sound_parts c h) p l).component
+
+  either_component : (p : ℕ) → p < length c.a → (mated : Bool) → component_of c (if mated then mate c p else p) ≡ component_of c p
+  either_component p l true = mate_component p l
+  either_component p l false = refl
+
+  pub over_component : (kind : Bool) (p : ℕ) → p < length c.a → component_of c (over c kind p) ≡ component_of c p
+  over_component kind p l = either_component p l (same kind (is_tree c p))
 
   -- each component has two positions, those of an edge
   two_positions : (j : ℕ) → j < component_count c → start_of c j + 2 ≤ end_of c j

@@ -115,14 +115,15 @@ fn is_crossed<C: Ledger>(view: TuranView<'_>, p: usize, steps: &mut Steps<C>) ->
 {
     let mate = view.mate(p, steps);
     view.node_reached(p, steps) == view.node_of(mate, steps)
-        && view.ring_across(p, steps) == view.ring_of(mate, steps)
+        && view.ring_across(p, p, steps) == view.ring_of(mate, steps)
 }
 
 /// Whether the stop at position `p` says what is said of it by itself.
 fn is_stop<C: Ledger>(view: TuranView<'_>, kind: bool, p: usize, steps: &mut Steps<C>) -> bool
     requires { p < length (code_of_view view).a }
 {
-    let stop = view.stop(kind, p, steps);
+    let mut near = p;
+    let stop = view.stop(kind, p, &mut near, steps);
     let next = if kind {
         view.turn(p, steps)
     } else {
@@ -131,7 +132,8 @@ fn is_stop<C: Ledger>(view: TuranView<'_>, kind: bool, p: usize, steps: &mut Ste
     stop.edge == view.edge_of(p, steps)
         && stop.is_first == view.is_first(p, steps)
         && stop.next == next
-        && view.after(stop.over, steps) == next
+        && near == view.component_of(p, steps) as usize
+        && view.after(stop.over, &mut near, steps) == next
 }
 
 /// The first wrong position of a view, among each `stride`th and the last ones of the components.

@@ -3,7 +3,7 @@
 ghost use Rattle.std.specs.Prelude.{◌≡◌, ◌≤◌, length, IsTrue};
 ghost use Rattle.rank_select.specs.RankView.{counted};
 ghost use Rattle.parens.specs.ParenView.{parens_of};
-ghost use Rattle.bit_words.specs.PackedView.{fields_of};
+ghost use Rattle.bit_words.specs.PackedView.{fields_of, width_of};
 ghost use Rattle.code_laws.specs.Code.{code_with};
 ghost use Rattle.code_laws.specs.SeqFault.{is_sound};
 
@@ -59,6 +59,7 @@ pub(crate) struct Seen {
 pub struct TuranView<'a> {
     parts: TuranParts<'a>,
     ghost few: { length (counted parts.a) ≤ 2147483647 },
+    ghost width: { width_of parts.starts ≡ 32 },
     ghost sound: { IsTrue (is_sound (code_with (counted parts.a) (parens_of parts.tree) (parens_of parts.dual)
         (fields_of parts.starts))) },
 }
@@ -67,6 +68,7 @@ impl<'a> TuranView<'a> {
     ghost use Rattle.std.specs.Prelude.{◌≡◌, ◌≢◌, ◌<◌, ◌≤◌, ◌+◌, ◌-◌, ◌*◌, ◌==◌, ◌↔◌, length, true, false, Bool, IsTrue, IsNone, IfSome, Some, None, nat_lt, if◌then◌else◌, slice_index};
     ghost use Rattle.bit_words.specs.Digits.{digits};
     ghost use Rattle.bit_words.specs.Bits.{select};
+    ghost use Rattle.bit_words.specs.PackedView.{width_of};
     ghost use Rattle.parens.specs.Matching.{mate_of, is_open};
     ghost use Rattle.code_laws.specs.Code.{is_tree, is_first, parens, place, mate, component_of, component_count, start_of, end_of, after, before, turn, next, turn_back, next_back, over, step, step_back};
     ghost use Rattle.code_laws.specs.Numbers.{tree_edges, edge_of, node_of, ring_of, enclosing_pair, first_of_edge, first_of_node, first_of_shell, opening_position, one_on, edge_count, node_count, shell_count, has_ring};
@@ -77,6 +79,7 @@ impl<'a> TuranView<'a> {
     /// The code of these parts, which `check` finds sound. No word is read.
     pub fn new(parts: TuranParts<'a>) -> TuranView<'a>
         requires few { length (code_of_parts parts).a ≤ 2147483647 }
+        requires width { width_of parts.starts ≡ 32 }
         requires sound { IsTrue (is_sound (code_of_parts parts)) }
         ensures { code_of_view result ≡ code_of_parts parts.entry }
     {
@@ -194,14 +197,14 @@ impl<'a> TuranView<'a> {
         self.parts.starts.count() - 1
     }
 
-    /// Entry `component` of the starts.
+    /// Entry `component` of the starts, by one step.
+    #[inline]
     fn start<C: Ledger>(&self, component: usize, steps: &mut Steps<C>) -> usize
         requires { component ≤ component_count (code_of_view self.now) }
         ensures start { result ≡ start_of (code_of_view self.now) component }
-        ensures some_steps { steps.old + 1 ≤ steps.new }
-        ensures cost { steps.new ≤ steps.old + 2 }
+        ensures one_step { steps.new ≡ steps.old + 1 }
     {
-        self.parts.starts.field(component, steps) as usize
+        self.parts.starts.half_word(component, steps) as usize
     }
 
     /// The component that position `p` is in, by halving.
@@ -211,7 +214,7 @@ impl<'a> TuranView<'a> {
         ensures component { result ≡ component_of (code_of_view self.now) p }
         ensures within { result < component_count (code_of_view self.now) }
         ensures grows { steps.old ≤ steps.new }
-        ensures cost { steps.new ≤ steps.old + 2 * digits (component_count (code_of_view self.now)) }
+        ensures cost { steps.new ≤ steps.old + digits (component_count (code_of_view self.now)) }
     {
         let mut low = 0;
         let mut high = self.components();
@@ -226,29 +229,33 @@ impl<'a> TuranView<'a> {
         low
     }
 
-    /// The component that position `p` is in. In most maps it is the first, which holds nearly all positions.
-    fn component<C: Ledger>(&self, p: usize, steps: &mut Steps<C>) -> usize
+    /// The component that position `p` is in, which is looked for in component `near` before all.
+    fn component<C: Ledger>(&self, p: usize, near: usize, steps: &mut Steps<C>) -> usize
         requires { p < length (code_of_view self.now).a }
         ensures component { result ≡ component_of (code_of_view self.now) p }
         ensures within { result < component_count (code_of_view self.now) }
         ensures some_steps { steps.old + 1 ≤ steps.new }
-        ensures cost { steps.new ≤ steps.old + 2 * digits (length (code_of_view self.now).a + 2) }
+        ensures cost { steps.new ≤ steps.old + digits (length (code_of_view self.now).a + 2) + 1 }
     {
-        if p < self.start(1, steps) {
-            return 0;
+        let near = near.min(self.components() - 1);
+        if self.start(near, steps) <= p && p < self.start(near + 1, steps) {
+            return near;
         }
         self.component_by_halving(p, steps)
     }
 
-    /// The position after `p`, round its component.
-    pub fn after<C: Ledger>(&self, p: usize, steps: &mut Steps<C>) -> usize
+    /// The position after `p`, round its component. A walk stays in one component: it is looked for in `near` before
+    /// all, and stands there in the end.
+    pub fn after<C: Ledger>(&self, p: usize, near: &mut usize, steps: &mut Steps<C>) -> usize
         requires { p < length (code_of_view self.now).a }
         ensures after { result ≡ after (code_of_view self.now) p }
         ensures within { result < length (code_of_view self.now).a }
+        ensures component { near.new ≡ component_of (code_of_view self.now) p }
         ensures some_steps { steps.old + 1 ≤ steps.new }
-        ensures cost { steps.new ≤ steps.old + 2 * digits (length (code_of_view self.now).a + 2) + 4 }
+        ensures cost { steps.new ≤ steps.old + digits (length (code_of_view self.now).a + 2) + 3 }
     {
-        let component = self.component(p, steps);
+        let component = self.component(p, *near, steps);
+        *near = component;
         let end = self.start(component + 1, steps);
         if p + 1 == end {
             self.start(component, steps)
@@ -263,9 +270,9 @@ impl<'a> TuranView<'a> {
         ensures before { result ≡ before (code_of_view self.now) p }
         ensures within { result < length (code_of_view self.now).a }
         ensures some_steps { steps.old + 1 ≤ steps.new }
-        ensures cost { steps.new ≤ steps.old + 2 * digits (length (code_of_view self.now).a + 2) + 4 }
+        ensures cost { steps.new ≤ steps.old + digits (length (code_of_view self.now).a + 2) + 3 }
     {
-        let component = self.component(p, steps);
+        let component = self.component(p, 0, steps);
         let start = self.start(component, steps);
         if p == start {
             self.start(component + 1, steps) - 1
@@ -306,16 +313,24 @@ impl<'a> TuranView<'a> {
         }
     }
 
-    /// The next position of the orbit of `p` by steps of one kind.
-    fn step<C: Ledger>(&self, kind: bool, p: usize, steps: &mut Steps<C>) -> usize
+    /// The next position of the orbit of `p` by steps of one kind: the one after its mate, where its edge is of that
+    /// kind, and else the one after it. The component is looked for in `near` before all, and stands there in the end.
+    pub fn step<C: Ledger>(
+        &self,
+        kind: bool,
+        p: usize,
+        near: &mut usize,
+        steps: &mut Steps<C>,
+    ) -> usize
         requires { p < length (code_of_view self.now).a }
         ensures step { result ≡ step (code_of_view self.now) kind p }
         ensures within { result < length (code_of_view self.now).a }
+        ensures component { near.new ≡ component_of (code_of_view self.now) p }
         ensures some_steps { steps.old + 1 ≤ steps.new }
-        ensures cost { steps.new ≤ steps.old + 9 * digits (length (code_of_view self.now).a + 2) + 65 }
+        ensures cost { steps.new ≤ steps.old + 8 * digits (length (code_of_view self.now).a + 2) + 64 }
     {
         let over = self.over(kind, p, steps);
-        self.after(over, steps)
+        self.after(over, near, steps)
     }
 
     /// The position from which a step of one kind goes to `p`.
@@ -325,7 +340,7 @@ impl<'a> TuranView<'a> {
         ensures within { result < length (code_of_view self.now).a }
         ensures undone { step (code_of_view self.now) kind result ≡ p }
         ensures some_steps { steps.old + 1 ≤ steps.new }
-        ensures cost { steps.new ≤ steps.old + 9 * digits (length (code_of_view self.now).a + 2) + 65 }
+        ensures cost { steps.new ≤ steps.old + 8 * digits (length (code_of_view self.now).a + 2) + 64 }
     {
         let before = self.before(p, steps);
         self.over(kind, before, steps)
@@ -368,9 +383,9 @@ impl<'a> TuranView<'a> {
         ensures turn { result ≡ turn (code_of_view self.now) p }
         ensures within { result < length (code_of_view self.now).a }
         ensures some_steps { steps.old + 1 ≤ steps.new }
-        ensures cost { steps.new ≤ steps.old + 9 * digits (length (code_of_view self.now).a + 2) + 65 }
+        ensures cost { steps.new ≤ steps.old + 8 * digits (length (code_of_view self.now).a + 2) + 64 }
     {
-        self.step(true, p, steps)
+        self.step(true, p, &mut 0, steps)
     }
 
     /// The next position of the ring of position `p`: the one after its mate, where its edge is none of the trees, and
@@ -380,9 +395,9 @@ impl<'a> TuranView<'a> {
         ensures next { result ≡ next (code_of_view self.now) p }
         ensures within { result < length (code_of_view self.now).a }
         ensures some_steps { steps.old + 1 ≤ steps.new }
-        ensures cost { steps.new ≤ steps.old + 9 * digits (length (code_of_view self.now).a + 2) + 65 }
+        ensures cost { steps.new ≤ steps.old + 8 * digits (length (code_of_view self.now).a + 2) + 64 }
     {
-        self.step(false, p, steps)
+        self.step(false, p, &mut 0, steps)
     }
 
     /// The position from which `turn` goes to `p`.
@@ -392,7 +407,7 @@ impl<'a> TuranView<'a> {
         ensures within { result < length (code_of_view self.now).a }
         ensures undone { turn (code_of_view self.now) result ≡ p }
         ensures some_steps { steps.old + 1 ≤ steps.new }
-        ensures cost { steps.new ≤ steps.old + 9 * digits (length (code_of_view self.now).a + 2) + 65 }
+        ensures cost { steps.new ≤ steps.old + 8 * digits (length (code_of_view self.now).a + 2) + 64 }
     {
         self.step_back(true, p, steps)
     }
@@ -404,7 +419,7 @@ impl<'a> TuranView<'a> {
         ensures within { result < length (code_of_view self.now).a }
         ensures undone { next (code_of_view self.now) result ≡ p }
         ensures some_steps { steps.old + 1 ≤ steps.new }
-        ensures cost { steps.new ≤ steps.old + 9 * digits (length (code_of_view self.now).a + 2) + 65 }
+        ensures cost { steps.new ≤ steps.old + 8 * digits (length (code_of_view self.now).a + 2) + 64 }
     {
         self.step_back(false, p, steps)
     }
@@ -426,10 +441,10 @@ impl<'a> TuranView<'a> {
         requires { p < length (code_of_view self.now).a }
         ensures component { result ≡ component_of (code_of_view self.now) p }
         ensures within { result < component_count (code_of_view self.now) }
-        ensures grows { steps.old ≤ steps.new }
-        ensures cost { steps.new ≤ steps.old + 2 * digits (length (code_of_view self.now).a + 2) + 2 }
+        ensures some_steps { steps.old + 1 ≤ steps.new }
+        ensures cost { steps.new ≤ steps.old + digits (length (code_of_view self.now).a + 2) + 1 }
     {
-        self.component(p, steps) as u32
+        self.component(p, 0, steps) as u32
     }
 
     /// The number, among the pairs of one kind, of the innermost pair round the gap before position `p`.
@@ -454,11 +469,26 @@ impl<'a> TuranView<'a> {
         ensures node { result ≡ node_of (code_of_view self.now) p }
         ensures within { result < node_count (code_of_view self.now) }
         ensures some_steps { steps.old + 1 ≤ steps.new }
-        ensures cost { steps.new ≤ steps.old + 6 * digits (length (code_of_view self.now).a + 2) + 60 }
+        ensures cost { steps.new ≤ steps.old + 5 * digits (length (code_of_view self.now).a + 2) + 59 }
     {
         match self.enclosing_pair(true, p, steps) {
             Some(pair) => (self.components() + pair) as u32,
             None => self.component_of(p, steps),
+        }
+    }
+
+    /// The ring of position `p`: its component's outer ring, or the shell of an edge that is none of the trees. The
+    /// component is looked for in `near` before all.
+    fn ring_near<C: Ledger>(&self, p: usize, near: usize, steps: &mut Steps<C>) -> RingNumber
+        requires { p < length (code_of_view self.now).a }
+        ensures ring { result ≡ ring_of (code_of_view self.now) p }
+        ensures within { IsTrue (has_ring (code_of_view self.now) result) }
+        ensures some_steps { steps.old + 1 ≤ steps.new }
+        ensures cost { steps.new ≤ steps.old + 5 * digits (length (code_of_view self.now).a + 2) + 59 }
+    {
+        match self.enclosing_pair(false, p, steps) {
+            Some(pair) => RingNumber::Shell(pair as u32),
+            None => RingNumber::Outer(self.component(p, near, steps) as u32),
         }
     }
 
@@ -468,18 +498,21 @@ impl<'a> TuranView<'a> {
         ensures ring { result ≡ ring_of (code_of_view self.now) p }
         ensures within { IsTrue (has_ring (code_of_view self.now) result) }
         ensures some_steps { steps.old + 1 ≤ steps.new }
-        ensures cost { steps.new ≤ steps.old + 6 * digits (length (code_of_view self.now).a + 2) + 60 }
+        ensures cost { steps.new ≤ steps.old + 5 * digits (length (code_of_view self.now).a + 2) + 59 }
     {
-        match self.enclosing_pair(false, p, steps) {
-            Some(pair) => RingNumber::Shell(pair as u32),
-            None => RingNumber::Outer(self.component_of(p, steps)),
-        }
+        self.ring_near(p, 0, steps)
     }
 
     /// A position round the node that the mate of position `p` leaves, or, where `kind` is false, of the mate's ring:
     /// the mate, where the edge is of the other kind, and else the position that follows the mate there. So no mate is
     /// looked for where the edge is of this kind.
-    fn beside_mate<C: Ledger>(&self, kind: bool, p: usize, steps: &mut Steps<C>) -> usize
+    fn beside_mate<C: Ledger>(
+        &self,
+        kind: bool,
+        p: usize,
+        near: &mut usize,
+        steps: &mut Steps<C>,
+    ) -> usize
         requires { p < length (code_of_view self.now).a }
         ensures node { kind ≡ true
             → node_of (code_of_view self.now) result ≡ node_of (code_of_view self.now) (mate (code_of_view self.now) p) }
@@ -491,7 +524,7 @@ impl<'a> TuranView<'a> {
     {
         let own = self.is_tree(p, steps);
         if own == kind {
-            self.after(p, steps)
+            self.after(p, near, steps)
         } else {
             self.mate_of_kind(own, p, steps)
         }
@@ -503,22 +536,23 @@ impl<'a> TuranView<'a> {
         ensures node { result ≡ node_of (code_of_view self.now) (mate (code_of_view self.now) p) }
         ensures within { result < node_count (code_of_view self.now) }
         ensures some_steps { steps.old + 1 ≤ steps.new }
-        ensures cost { steps.new ≤ steps.old + 13 * digits (length (code_of_view self.now).a + 2) + 121 }
+        ensures cost { steps.new ≤ steps.old + 12 * digits (length (code_of_view self.now).a + 2) + 120 }
     {
-        let beside = self.beside_mate(true, p, steps);
+        let beside = self.beside_mate(true, p, &mut 0, steps);
         self.node_of(beside, steps)
     }
 
-    /// The ring across the edge at position `p`: that of its mate.
-    pub fn ring_across<C: Ledger>(&self, p: usize, steps: &mut Steps<C>) -> RingNumber
+    /// The ring across the edge at position `p`: that of its mate. Their component is looked for in `near` before all.
+    pub fn ring_across<C: Ledger>(&self, p: usize, near: usize, steps: &mut Steps<C>) -> RingNumber
         requires { p < length (code_of_view self.now).a }
         ensures ring { result ≡ ring_of (code_of_view self.now) (mate (code_of_view self.now) p) }
         ensures within { IsTrue (has_ring (code_of_view self.now) result) }
         ensures some_steps { steps.old + 1 ≤ steps.new }
-        ensures cost { steps.new ≤ steps.old + 13 * digits (length (code_of_view self.now).a + 2) + 121 }
+        ensures cost { steps.new ≤ steps.old + 12 * digits (length (code_of_view self.now).a + 2) + 120 }
     {
-        let beside = self.beside_mate(false, p, steps);
-        self.ring_of(beside, steps)
+        let mut near = near;
+        let beside = self.beside_mate(false, p, &mut near, steps);
+        self.ring_near(beside, near, steps)
     }
 
     /// The place that opens the pair of place `place` of one kind, and whether it is that one.
@@ -608,8 +642,14 @@ impl<'a> TuranView<'a> {
     }
 
     /// The edge at position `p`, and the next position of its orbit: round its node where `kind` is true, else round
-    /// its ring.
-    pub fn stop<C: Ledger>(&self, kind: bool, p: usize, steps: &mut Steps<C>) -> Stop
+    /// its ring. Their component is looked for in `near` before all, and stands there in the end.
+    pub fn stop<C: Ledger>(
+        &self,
+        kind: bool,
+        p: usize,
+        near: &mut usize,
+        steps: &mut Steps<C>,
+    ) -> Stop
         requires { p < length (code_of_view self.now).a }
         ensures edge { result.edge ≡ edge_of (code_of_view self.now) p }
         ensures edge_within { result.edge < edge_count (code_of_view self.now) }
@@ -618,8 +658,9 @@ impl<'a> TuranView<'a> {
         ensures over_within { result.over < length (code_of_view self.now).a }
         ensures next { result.next ≡ step (code_of_view self.now) kind p }
         ensures within { result.next < length (code_of_view self.now).a }
+        ensures component { near.new ≡ component_of (code_of_view self.now) p }
         ensures some_steps { steps.old + 1 ≤ steps.new }
-        ensures cost { steps.new ≤ steps.old + 13 * digits (length (code_of_view self.now).a + 2) + 116 }
+        ensures cost { steps.new ≤ steps.old + 12 * digits (length (code_of_view self.now).a + 2) + 115 }
     {
         let seen = self.see(p, steps);
         let over = if seen.tree == kind {
@@ -631,7 +672,7 @@ impl<'a> TuranView<'a> {
             edge: seen.edge,
             is_first: seen.is_first,
             over,
-            next: self.after(over, steps),
+            next: self.after(over, near, steps),
         }
     }
 
@@ -699,7 +740,7 @@ impl<'a> TuranView<'a> {
         ensures within { IfSome result (λ p. p < length (code_of_view self.now).a) }
         ensures none { IsNone result ↔ (component_count (code_of_view self.now) ≤ component) }
         ensures grows { steps.old ≤ steps.new }
-        ensures cost { steps.new ≤ steps.old + 2 }
+        ensures cost { steps.new ≤ steps.old + 1 }
     {
         let component = component as usize;
         if component < self.components() {

@@ -1,4 +1,4 @@
-use Rattle.std.proofs.Common.{◌-◌, ◌≤◌, ◌<◌, ◌+◌, ◌*◌}
+use Rattle.std.proofs.Common.{◌-◌, ◌≤◌, ◌<◌, ◌+◌}
 use Rattle.bit_words.specs.Digits.{digits}
 use Rattle.code_laws.specs.Code.{component_count, start_of}
 use Rattle.turan_code.specs.TuranView.{code_of_view}
@@ -11,7 +11,7 @@ invariant-loop-high g l = record {
   from : start_of (code_of_view l.self) l.low ≤ l.p;
   to : l.p < start_of (code_of_view l.self) l.high;
   grows : l.initial.steps ≤ l.steps;
-  steps : l.steps + 2 * digits (l.high - l.low - 1) ≤ l.initial.steps + 2 * digits (component_count (code_of_view l.self));
+  steps : l.steps + digits (l.high - l.low - 1) ≤ l.initial.steps + digits (component_count (code_of_view l.self));
 }
 
 abbrev pub decreases-loop-high : goal.decreases-loop-high
