@@ -10,3 +10,4 @@ pub mod Builds
 pub mod Backs
 pub mod Between
 pub mod Fronts
+pub mod WholeWords

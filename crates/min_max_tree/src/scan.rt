@@ -50,8 +50,35 @@ fn last_rise(word: u64, from: u32, to: u32, drop: u32) -> Option<u32>
     last_excess(word, from, to, drop)
 }
 
-/// Looks at the bits of one word, from `from` to before `to`.
-pub(crate) fn scan_word<C: Ledger>(
+/// Looks at all bits of the word that begins at `from`, with no search where it has too few zeros.
+#[inline]
+fn scan_whole_word<C: Ledger>(
+    bits: &BitView<'_>,
+    from: usize,
+    need: u64,
+    steps: &mut Steps<C>,
+) -> Scan
+    requires few { length (bits_of bits.now) ≤ 2147483647 }
+    requires word { from % 64 ≡ 0 }
+    requires within { from + 64 ≤ length (bits_of bits.now) }
+    requires need { 1 ≤ need }
+    requires small { need ≤ 17179869184 }
+    ensures scanned { Scanned (bits_of bits.now) need from (from + 64) result }
+    ensures one_step { steps.new ≡ steps.old + 1 }
+{
+    let chunk = bits.word(from / 64, steps);
+    let ones = ones_below(chunk, 64) as u64;
+    if 64 < need + ones {
+        return Scan::Above(need + 2 * ones - 64);
+    }
+    match first_excess(chunk, 0, 64, need as u32) {
+        Some(place) => Scan::Found(from + place as usize),
+        None => Scan::Above(need + 2 * ones - 64),
+    }
+}
+
+/// Looks at some bits of one word, from `from` to before `to`.
+fn scan_part<C: Ledger>(
     bits: &BitView<'_>,
     from: usize,
     to: usize,
@@ -78,6 +105,31 @@ pub(crate) fn scan_word<C: Ledger>(
             let ones = ones_below(chunk, high) - ones_below(chunk, low);
             Scan::Above(need + 2 * ones as u64 - (high - low) as u64)
         }
+    }
+}
+
+/// Looks at the bits of one word, from `from` to before `to`.
+#[inline]
+pub(crate) fn scan_word<C: Ledger>(
+    bits: &BitView<'_>,
+    from: usize,
+    to: usize,
+    need: u64,
+    steps: &mut Steps<C>,
+) -> Scan
+    requires few { length (bits_of bits.now) ≤ 2147483647 }
+    requires some { from + 1 ≤ to }
+    requires within { to ≤ length (bits_of bits.now) }
+    requires one_word { to ≤ 64 * (from / 64 + 1) }
+    requires need { 1 ≤ need }
+    requires small { need ≤ 17179869184 }
+    ensures scanned { Scanned (bits_of bits.now) need from to result }
+    ensures one_step { steps.new ≡ steps.old + 1 }
+{
+    if to == from + 64 {
+        scan_whole_word(bits, from, need, steps)
+    } else {
+        scan_part(bits, from, to, need, steps)
     }
 }
 
@@ -112,8 +164,35 @@ pub fn scan_bits<C: Ledger>(
     Scan::Above(left)
 }
 
-/// Looks back at the bits of one word, from `to` down to `from`.
-pub(crate) fn scan_word_back<C: Ledger>(
+/// Looks back at all bits of the word that begins at `from`, with no search where it has too few ones.
+#[inline]
+fn scan_whole_word_back<C: Ledger>(
+    bits: &BitView<'_>,
+    from: usize,
+    need: u64,
+    steps: &mut Steps<C>,
+) -> Scan
+    requires few { length (bits_of bits.now) ≤ 2147483647 }
+    requires word { from % 64 ≡ 0 }
+    requires within { from + 64 ≤ length (bits_of bits.now) }
+    requires need { 1 ≤ need }
+    requires small { need ≤ 17179869184 }
+    ensures scanned { ScannedBack (bits_of bits.now) need from (from + 64) result }
+    ensures one_step { steps.new ≡ steps.old + 1 }
+{
+    let chunk = bits.word(from / 64, steps);
+    let ones = ones_below(chunk, 64) as u64;
+    if ones < need {
+        return Scan::Above(need + 64 - 2 * ones);
+    }
+    match last_excess(chunk, 0, 64, need as u32) {
+        Some(place) => Scan::Found(from + place as usize),
+        None => Scan::Above(need + 64 - 2 * ones),
+    }
+}
+
+/// Looks back at some bits of one word, from `to` down to `from`.
+fn scan_part_back<C: Ledger>(
     bits: &BitView<'_>,
     from: usize,
     to: usize,
@@ -140,6 +219,31 @@ pub(crate) fn scan_word_back<C: Ledger>(
             let ones = ones_below(chunk, high) - ones_below(chunk, low);
             Scan::Above(need + (high - low) as u64 - 2 * ones as u64)
         }
+    }
+}
+
+/// Looks back at the bits of one word, from `to` down to `from`.
+#[inline]
+pub(crate) fn scan_word_back<C: Ledger>(
+    bits: &BitView<'_>,
+    from: usize,
+    to: usize,
+    need: u64,
+    steps: &mut Steps<C>,
+) -> Scan
+    requires few { length (bits_of bits.now) ≤ 2147483647 }
+    requires some { from + 1 ≤ to }
+    requires within { to ≤ length (bits_of bits.now) }
+    requires one_word { to ≤ 64 * (from / 64 + 1) }
+    requires need { 1 ≤ need }
+    requires small { need ≤ 17179869184 }
+    ensures scanned { ScannedBack (bits_of bits.now) need from to result }
+    ensures one_step { steps.new ≡ steps.old + 1 }
+{
+    if to == from + 64 {
+        scan_whole_word_back(bits, from, need, steps)
+    } else {
+        scan_part_back(bits, from, to, need, steps)
     }
 }
 

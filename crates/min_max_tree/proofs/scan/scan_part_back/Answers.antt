@@ -5,7 +5,7 @@ use Rattle.bit_words.specs.BitView.{bits_of}
 use Rattle.bit_words.proofs.Ranks.{rank-le-rank}
 use Rattle.min_max_tree.specs.SearchBack.{Leaves, Remains}
 use Rattle.min_max_tree.proofs.Backs.{left_in_list, remains_in_list, enough_back}
-use Rattle.min_max_tree.proofs.scan.scan_word_back.Goals as goal
+use Rattle.min_max_tree.proofs.scan.scan_part_back.Goals as goal
 
 pub returns-in-Some-clause-scanned : goal.returns-in-Some-clause-scanned
 returns-in-Some-clause-scanned g c =

@@ -5,7 +5,7 @@ use Rattle.bit_words.specs.BitView.{bits_of}
 use Rattle.bit_words.proofs.Ranks.{rank-le-rank}
 use Rattle.min_max_tree.specs.Search.{Reaches, Rests}
 use Rattle.min_max_tree.proofs.Falls.{found_in_list, rests_in_list, big_enough}
-use Rattle.min_max_tree.proofs.scan.scan_word.Goals as goal
+use Rattle.min_max_tree.proofs.scan.scan_part.Goals as goal
 
 pub returns-in-Some-clause-scanned : goal.returns-in-Some-clause-scanned
 returns-in-Some-clause-scanned g c =
