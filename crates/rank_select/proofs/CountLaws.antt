@@ -233,15 +233,15 @@ module _ (kind : Bool) (bits : List Bool) (word chunk : ℕ) (agrees : KindChunk
 
 pub ruleset selects = (found, not_here)
 
-pub chunk_true : (bits : List Bool) (word chunk : ℕ) → ((k : ℕ) → k < 64 → is_set chunk k ≡ get_or bits (64 * word + k) false) → KindChunk true bits word chunk
-chunk_true bits word chunk h = record { agree = λ k p _. h k p }
+pub chunk_true : (bits : List Bool) (word chunk : ℕ) → ((k : ℕ) → 64 * word + k < length bits → k < 64 → is_set chunk k ≡ get_or bits (64 * word + k) false) → KindChunk true bits word chunk
+chunk_true bits word chunk h = record { agree = λ k p within. h k within p }
 
-pub chunk_false : (bits : List Bool) (word chunk : ℕ) → chunk < 2 ^ 64 → ((k : ℕ) → k < 64 → is_set chunk k ≡ get_or bits (64 * word + k) false) → KindChunk false bits word (2 ^ 64 - 1 - chunk)
+pub chunk_false : (bits : List Bool) (word chunk : ℕ) → chunk < 2 ^ 64 → ((k : ℕ) → 64 * word + k < length bits → k < 64 → is_set chunk k ≡ get_or bits (64 * word + k) false) → KindChunk false bits word (2 ^ 64 - 1 - chunk)
 unfolding is_set
 chunk_false bits word chunk small h = record {
-  agree = λ k p _.
+  agree = λ k p within.
       let e : bit_at (2 ^ 64 - 1 - chunk) k ≡ 1 - bit_at chunk k = bit_at_not w64 chunk k small p in
-      ap (λ x. eqb x 1) e ∙ flipped (bit_at chunk k) (bit_at-lt chunk k) ∙ ap not (h k p);
+      ap (λ x. eqb x 1) e ∙ flipped (bit_at chunk k) (bit_at-lt chunk k) ∙ ap not (h k within p);
 }
   where
     flipped : (x : ℕ) → x < 2 → eqb (1 - x) 1 ≡ not (eqb x 1)

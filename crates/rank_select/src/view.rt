@@ -292,13 +292,13 @@ impl<'a> RankView<'a> {
         self.bracket_from(kind, j, nearer, before, first, steps)
     }
 
-    /// The word that has a 1 where a bit is of this kind, by one step.
+    /// The word that has a 1 where a bit is of this kind, and from the end of the list on any bits, by one step.
     fn kind_chunk<C: Ledger>(&self, kind: bool, word: usize, steps: &mut Steps<C>) -> u64
         requires { 64 * word < length (counted self.now) }
         ensures chunk { KindChunk kind (counted self.now) word result }
         ensures one_step { steps.new ≡ steps.old + 1 }
     {
-        let chunk = self.bits.chunk(word, steps);
+        let chunk = self.bits.word(word, steps);
         if kind { chunk } else { !chunk }
     }
 
