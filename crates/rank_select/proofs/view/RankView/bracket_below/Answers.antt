@@ -5,8 +5,8 @@ use Rattle.rank_select.specs.RankView.{counted}
 use Rattle.rank_select.proofs.CountLaws.{stride_cost, digits-double, some_in}
 use Rattle.rank_select.proofs.view.RankView.bracket_below.Goals as goal
 
-pub returns-then-kind_before-j-clause-cost : goal.returns-then-kind_before-j-clause-cost
-returns-then-kind_before-j-clause-cost g c =
+pub returns-then-before-j-clause-cost : goal.returns-then-before-j-clause-cost
+returns-then-before-j-clause-cost g c =
     let cost = stride_cost c.args.steps.now c.loop-stride.steps c.args.first c.loop-stride.stride (blocks (length (counted c.args.self.now))) c.requires.stride c.loop-stride.invariant.doubled (omega arith) in
     omega arith
 
