@@ -38,6 +38,14 @@ struct Bracket {
     high: usize,
 }
 
+/// A block from which a bit is looked for, how many bits of its kind stand before the block, and the first stride.
+#[derive(Clone, Copy)]
+struct Start {
+    block: usize,
+    before: usize,
+    stride: usize,
+}
+
 /// Bits with the count of the ones before each block of 512 bits, so that a count reads at most nine words.
 #[derive(Clone, Copy)]
 pub struct RankView<'a> {
@@ -144,32 +152,29 @@ impl<'a> RankView<'a> {
         ((count >> coarse) * share / BLOCK_PARTS).min(last)
     }
 
-    /// A bracket of the block of bit `j` of this kind, from block `block`, which has `before` of it before it, upward by
-    /// strides that double.
+    /// A bracket of the block of bit `j` of this kind, from a start that isn't past it upward by strides that double.
     #[tactic(auto, using(crate::proofs::CountLaws::strides))]
     fn bracket_above<C: Ledger>(
         &self,
         kind: bool,
         j: usize,
-        block: usize,
-        before: usize,
-        first: usize,
+        start: Start,
         steps: &mut Steps<C>,
     ) -> Bracket
-        requires within { block < blocks (length (counted self.now)) }
-        requires before { before ≡ rank kind (counted self.now) (512 * block) }
-        requires low { before ≤ j }
+        requires within { start.block < blocks (length (counted self.now)) }
+        requires before { start.before ≡ rank kind (counted self.now) (512 * start.block) }
+        requires low { start.before ≤ j }
         requires some { j < rank kind (counted self.now) (length (counted self.now)) }
-        requires stride { 1 ≤ first }
+        requires stride { 1 ≤ start.stride }
         ensures bracket { Brackets kind (counted self.now) j result.low result.high }
         ensures before { result.before ≡ rank kind (counted self.now) (512 * result.low) }
         ensures grows { steps.old ≤ steps.new }
         ensures cost { steps.new ≤ steps.old + digits (blocks (length (counted self.now))) }
     {
         let end = self.bits.len().div_ceil(512);
-        let mut low = block;
-        let mut below = before;
-        let mut stride = first;
+        let mut low = start.block;
+        let mut below = start.before;
+        let mut stride = start.stride;
         while stride < end - low {
             let high = low + stride;
             let above = self.kind_before(kind, high, steps);
@@ -191,26 +196,25 @@ impl<'a> RankView<'a> {
         }
     }
 
-    /// A bracket of the block of bit `j` of this kind, from block `block` downward by strides that double.
+    /// A bracket of the block of bit `j` of this kind, from a start past it downward by strides that double.
     #[tactic(auto, using(crate::proofs::CountLaws::strides))]
     fn bracket_below<C: Ledger>(
         &self,
         kind: bool,
         j: usize,
-        block: usize,
-        first: usize,
+        start: Start,
         steps: &mut Steps<C>,
     ) -> Bracket
-        requires within { block ≤ blocks (length (counted self.now)) }
-        requires high { j < rank kind (counted self.now) (512 * block) }
-        requires stride { 1 ≤ first }
+        requires within { start.block ≤ blocks (length (counted self.now)) }
+        requires high { j < rank kind (counted self.now) (512 * start.block) }
+        requires stride { 1 ≤ start.stride }
         ensures bracket { Brackets kind (counted self.now) j result.low result.high }
         ensures before { result.before ≡ rank kind (counted self.now) (512 * result.low) }
         ensures grows { steps.old ≤ steps.new }
         ensures cost { steps.new ≤ steps.old + digits (blocks (length (counted self.now))) }
     {
-        let mut high = block;
-        let mut stride = first;
+        let mut high = start.block;
+        let mut stride = start.stride;
         while stride < high {
             let low = high - stride;
             let before = self.kind_before(kind, low, steps);
@@ -275,36 +279,42 @@ impl<'a> RankView<'a> {
         }
     }
 
-    /// A bracket of the block of bit `j` of this kind, from block `block`, which has `before` of it before it,
-    /// toward that bit by strides that double.
-    fn bracket_from<C: Ledger>(
-        &self,
-        kind: bool,
-        j: usize,
-        block: usize,
-        before: usize,
-        first: usize,
-        steps: &mut Steps<C>,
-    ) -> Bracket
-        requires within { block < blocks (length (counted self.now)) }
-        requires before { before ≡ rank kind (counted self.now) (512 * block) }
-        requires some { j < rank kind (counted self.now) (length (counted self.now)) }
-        requires stride { 1 ≤ first }
-        ensures bracket { Brackets kind (counted self.now) j result.low result.high }
-        ensures before { result.before ≡ rank kind (counted self.now) (512 * result.low) }
+    /// Where to begin to look for bit `j` of this kind, of which there are `all`: at the block that an even share suggests,
+    /// moved once where its count says that the bit is further off.
+    #[tactic(auto, using(crate::proofs::CountLaws::nearer))]
+    fn start_of<C: Ledger>(&self, kind: bool, j: usize, all: usize, steps: &mut Steps<C>) -> Start
+        requires all { all ≡ rank kind (counted self.now) (length (counted self.now)) }
+        requires some { j < all }
+        ensures within { result.block < blocks (length (counted self.now)) }
+        ensures before { result.before ≡ rank kind (counted self.now) (512 * result.block) }
+        ensures stride { 1 ≤ result.stride }
         ensures grows { steps.old ≤ steps.new }
-        ensures cost { steps.new ≤ steps.old + digits (blocks (length (counted self.now))) }
+        ensures cost { steps.new ≤ steps.old + 2 }
     {
-        if before <= j {
-            self.bracket_above(kind, j, block, before, first, steps)
-        } else {
-            self.bracket_below(kind, j, block, first, steps)
+        let coarse = (usize::BITS - all.leading_zeros()).saturating_sub(SHARE_DIGITS);
+        let share = self.share_of(all, coarse);
+        let block = self.blocks_for(j, coarse, share);
+        let before = self.kind_before(kind, block, steps);
+        let away = self.blocks_for(j.abs_diff(before), coarse, share);
+        if away == 0 {
+            return Start {
+                block,
+                before,
+                stride: 1,
+            };
+        }
+        let nearer = self.moved_block(block, before, j, away);
+        let before = self.kind_before(kind, nearer, steps);
+        let first = self.blocks_for(j.abs_diff(before), coarse, share) + 1;
+        Start {
+            block: nearer,
+            before,
+            stride: first,
         }
     }
 
-    /// A bracket of the block of bit `j` of this kind, of which there are `all`: from the block that an even share
-    /// suggests, moved once where its count says that the bit is further off.
-    #[tactic(auto, using(crate::proofs::CountLaws::nearer))]
+    /// A bracket of the block of bit `j` of this kind, of which there are `all`: from where the search begins toward that
+    /// bit by strides that double.
     fn bracket_of<C: Ledger>(
         &self,
         kind: bool,
@@ -319,18 +329,12 @@ impl<'a> RankView<'a> {
         ensures grows { steps.old ≤ steps.new }
         ensures cost { steps.new ≤ steps.old + digits (blocks (length (counted self.now))) + 2 }
     {
-        let coarse = (usize::BITS - all.leading_zeros()).saturating_sub(SHARE_DIGITS);
-        let share = self.share_of(all, coarse);
-        let block = self.blocks_for(j, coarse, share);
-        let before = self.kind_before(kind, block, steps);
-        let away = self.blocks_for(j.abs_diff(before), coarse, share);
-        if away == 0 {
-            return self.bracket_from(kind, j, block, before, 1, steps);
+        let start = self.start_of(kind, j, all, steps);
+        if start.before <= j {
+            self.bracket_above(kind, j, start, steps)
+        } else {
+            self.bracket_below(kind, j, start, steps)
         }
-        let nearer = self.moved_block(block, before, j, away);
-        let before = self.kind_before(kind, nearer, steps);
-        let first = self.blocks_for(j.abs_diff(before), coarse, share) + 1;
-        self.bracket_from(kind, j, nearer, before, first, steps)
     }
 
     /// The word that has a 1 where a bit is of this kind, and from the end of the list on any bits, by one step.

@@ -6,12 +6,12 @@ use Rattle.rank_select.proofs.view.RankView.bracket_above.Goals as goal
 
 pub returns-then-j-above-clause-cost : goal.returns-then-j-above-clause-cost
 returns-then-j-above-clause-cost g c =
-    let cost = stride_cost c.args.steps.now c.loop-stride.steps c.args.first c.loop-stride.stride (blocks (length (counted c.args.self.now))) c.requires.stride c.loop-stride.invariant.doubled (omega arith) in
+    let cost = stride_cost c.args.steps.now c.loop-stride.steps c.args.start.stride c.loop-stride.stride (blocks (length (counted c.args.self.now))) c.requires.stride c.loop-stride.invariant.doubled (omega arith) in
     omega arith
 
 pub loop-stride-preserved : goal.loop-stride-preserved
 loop-stride-preserved g c =
-    let cost = stride_cost c.args.steps.now c.loop-stride.steps c.args.first c.loop-stride.stride (blocks (length (counted c.args.self.now))) c.requires.stride c.loop-stride.invariant.doubled (omega arith) in
+    let cost = stride_cost c.args.steps.now c.loop-stride.steps c.args.start.stride c.loop-stride.stride (blocks (length (counted c.args.self.now))) c.requires.stride c.loop-stride.invariant.doubled (omega arith) in
     let more = digits-double c.loop-stride.stride c.loop-stride.invariant.some in
     record {
       order = omega arith;

@@ -2,7 +2,7 @@ use Rattle.std.proofs.Common.{◌*◌, arith, length}
 use Rattle.rank_select.specs.Counts.{blocks}
 use Rattle.rank_select.specs.RankView.{counted}
 use Rattle.rank_select.proofs.CountLaws.{rank-le-all, share_fits}
-use Rattle.rank_select.proofs.view.RankView.bracket_of.Goals as goal
+use Rattle.rank_select.proofs.view.RankView.start_of.Goals as goal
 
 pub blocks_for-block-requires-clause-fits : goal.blocks_for-block-requires-clause-fits
 blocks_for-block-requires-clause-fits g c = share_fits (blocks (length (counted c.args.self.now)) * 262144) c.args.j c.args.all c.saturating_sub-coarse.result c.share_of-share.result (omega arith) c.share_of-share.ensures.share
