@@ -68,6 +68,10 @@ some_bytes n b k bytes h within =
     little_from-drop k 0 b b bytes (omega arith)
     ∙ sym (ap (λ x. x / 2 ^ (8 * b) % 2 ^ (8 * k)) s ∙ ap (λ x. x % 2 ^ (8 * k)) (t ∙ u) ∙ kept)
 
+-- four bytes from byte b on are a field of 32 bits
+pub four_bytes : (n b : ℕ) (bytes : List ℕ) → ((i : ℕ) → slice_index bytes i < 256) → b + 4 ≤ 8 * n → little_number 4 (drop b bytes) ≡ field_at (words_in n bytes) (8 * b) 32
+four_bytes n b bytes h within = some_bytes n b 4 bytes h within
+
 -- eight bytes from byte b on are a field of 64 bits
 pub eight_bytes : (n b : ℕ) (bytes : List ℕ) → ((i : ℕ) → slice_index bytes i < 256) → b + 8 ≤ 8 * n → little_number 8 (drop b bytes) ≡ field_at (words_in n bytes) (8 * b) 64
 eight_bytes n b bytes h within = some_bytes n b 8 bytes h within

@@ -86,7 +86,7 @@ impl<'a> PackedView<'a> {
         ensures field { result ≡ slice_index (fields_of self.now) i }
         ensures one_step { steps.new ≡ steps.old + 1 }
     {
-        self.words.bits_from(32 * i, 32, steps)
+        self.words.half(i, steps)
     }
 
     /// Number `i` of any width, from the one word or the two that it stands in, read one by one.

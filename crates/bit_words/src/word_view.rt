@@ -41,7 +41,7 @@ impl<'a> WordView<'a> {
         self.bytes.len() / 8
     }
 
-    /// Word `i`. Each call is one step. Beside it only `bits_from` counts steps by itself.
+    /// Word `i`. Each call is one step. Beside it only `half` and `bits_from` count steps by themselves.
     #[inline]
     pub fn word<C: Ledger>(&self, i: usize, steps: &mut Steps<C>) -> u64
         requires { i < length (words_of self.now) }
@@ -51,6 +51,18 @@ impl<'a> WordView<'a> {
         let _bytes = self.bytes.len();
         steps.tick();
         LittleEndian::read_u64(&self.bytes[8 * i..])
+    }
+
+    /// The number in the 32 bits of half word `i`. Each call is one step.
+    #[inline]
+    pub(crate) fn half<C: Ledger>(&self, i: usize, steps: &mut Steps<C>) -> u64
+        requires { i < 2 * length (words_of self.now) }
+        ensures field { result ≡ field_at (words_of self.now) (32 * i) 32 }
+        ensures one_step { steps.new ≡ steps.old + 1 }
+    {
+        let _bytes = self.bytes.len();
+        steps.tick_words(32 * (i % 2), 32);
+        four_bytes(self.bytes, 4 * i) as u64
     }
 
     /// The number in the `width` bits from bit `from` on: by one step where they stand in one word, else by two.
@@ -81,6 +93,16 @@ impl<'a> WordView<'a> {
             bytes: &self.bytes[8 * from..8 * (from + count)],
         }
     }
+}
+
+/// The number in the four bytes from byte `byte` on. It counts no step: that is its caller's.
+#[inline]
+fn four_bytes(bytes: &[u8], byte: usize) -> u32
+    requires whole { length bytes.now % 8 ≡ 0 }
+    requires within { byte + 4 ≤ length bytes.now }
+    ensures { result ≡ field_at (words_in (length bytes.now / 8) bytes.now) (8 * byte) 32 }
+{
+    LittleEndian::read_u32(&bytes[byte..])
 }
 
 /// The number in the eight bytes from byte `byte` on. It counts no step: that is its caller's.

@@ -1,9 +1,10 @@
 -- laws of counts, and of the bits of a chunk
-use Rattle.std.proofs.Common.{◌≡◌, ℕ, zero, suc, ◌+◌, ◌-◌, ◌*◌, ◌/◌, ◌%◌, ◌<◌, ◌≤◌, Bool, true, false, List, [], ◌∷◌, length, get_or, refl, ap, sym, inl, inr, ◌∙◌, arith, ⊎_elim, min, cond, ◌++◌, add-zero, not, eqb, ◌^◌}
+use Rattle.std.proofs.Common.{◌≡◌, ℕ, zero, suc, ◌+◌, ◌-◌, ◌*◌, ◌/◌, ◌%◌, ◌<◌, ◌≤◌, Bool, true, false, List, [], ◌∷◌, length, get_or, refl, ap, sym, inl, inr, ◌∙◌, arith, ⊎_elim, min, max, cond, ◌++◌, add-zero, not, eqb, ◌^◌}
 use Rattle.std.proofs.lemmas.Bool.{cases_lt}
 use Rattle.std.proofs.lemmas.List.{take_all, get_or_past, get_or_default}
 use Rattle.std.specs.Int.{bit_at, w64, div_ceil}
-use Rattle.std.proofs.lemmas.Nat.{mul-le}
+use Rattle.std.proofs.lemmas.Nat.{mul-le, le-div, pow_pos}
+use Rattle.std.proofs.Math.Nat.{mul-div-le, div-mul-le_self}
 use Rattle.std.proofs.lemmas.Nat.Bits.{bit_at_not, bit_at-lt}
 use Rattle.bit_words.specs.Lists.{tabulate}
 use Rattle.bit_words.specs.Bits.{rank, word_bits, is_set, same}
@@ -132,11 +133,15 @@ stride_cost start steps first stride end some doubled below = omega (arith, digi
 
 pub ruleset strides = (rank_blocks, rank-zero, digits-double, some_block)
 
--- the product that a share is taken of
-pub product_fits : (count len coarse : ℕ) → count ≤ len → len ≤ 2147483647 → count / 2 ^ coarse * blocks len ≤ 2147483647 * 4194304
-product_fits count len coarse h l = mul-le (count / 2 ^ coarse) (blocks len) 2147483647 4194304 (omega arith) (omega arith)
-
-pub ruleset shares = (product_fits)
+-- the share of some bits is no more than that of all
+pub share_fits : (parts count all coarse share : ℕ) → count ≤ all → share ≡ parts / max (all / 2 ^ coarse) 1 → count / 2 ^ coarse * share ≤ parts
+share_fits parts count all coarse share h e =
+    let k = max (all / 2 ^ coarse) 1 in
+    let few : count / 2 ^ coarse ≤ all / 2 ^ coarse = le-div (count / 2 ^ coarse) all (2 ^ coarse) (pow_pos coarse) (omega (arith, div-mul-le_self count (2 ^ coarse))) in
+    let more : count / 2 ^ coarse * share ≤ k * share = mul-le (count / 2 ^ coarse) share k share (omega arith) (omega arith) in
+    let whole : k * (parts / k) ≤ parts = mul-div-le parts k in
+    let whole' : k * share ≤ parts = rw e whole in
+    omega arith
 
 -- the blocks have a digit less than the bits and two
 pub block_digits : (n : ℕ) → digits (blocks n) + 1 ≤ digits (n + 2)
@@ -233,15 +238,15 @@ module _ (kind : Bool) (bits : List Bool) (word chunk : ℕ) (agrees : KindChunk
 
 pub ruleset selects = (found, not_here)
 
-pub chunk_true : (bits : List Bool) (word chunk : ℕ) → ((k : ℕ) → k < 64 → is_set chunk k ≡ get_or bits (64 * word + k) false) → KindChunk true bits word chunk
-chunk_true bits word chunk h = record { agree = λ k p _. h k p }
+pub chunk_true : (bits : List Bool) (word chunk : ℕ) → ((k : ℕ) → 64 * word + k < length bits → k < 64 → is_set chunk k ≡ get_or bits (64 * word + k) false) → KindChunk true bits word chunk
+chunk_true bits word chunk h = record { agree = λ k p within. h k within p }
 
-pub chunk_false : (bits : List Bool) (word chunk : ℕ) → chunk < 2 ^ 64 → ((k : ℕ) → k < 64 → is_set chunk k ≡ get_or bits (64 * word + k) false) → KindChunk false bits word (2 ^ 64 - 1 - chunk)
+pub chunk_false : (bits : List Bool) (word chunk : ℕ) → chunk < 2 ^ 64 → ((k : ℕ) → 64 * word + k < length bits → k < 64 → is_set chunk k ≡ get_or bits (64 * word + k) false) → KindChunk false bits word (2 ^ 64 - 1 - chunk)
 unfolding is_set
 chunk_false bits word chunk small h = record {
-  agree = λ k p _.
+  agree = λ k p within.
       let e : bit_at (2 ^ 64 - 1 - chunk) k ≡ 1 - bit_at chunk k = bit_at_not w64 chunk k small p in
-      ap (λ x. eqb x 1) e ∙ flipped (bit_at chunk k) (bit_at-lt chunk k) ∙ ap not (h k p);
+      ap (λ x. eqb x 1) e ∙ flipped (bit_at chunk k) (bit_at-lt chunk k) ∙ ap not (h k within p);
 }
   where
     flipped : (x : ℕ) → x < 2 → eqb (1 - x) 1 ≡ not (eqb x 1)

@@ -13,6 +13,10 @@ use std::sync::ledger::Ledger;
 /// How many binary digits of a count are enough for a share of the blocks: so few that its division is a short one.
 const SHARE_DIGITS: u32 = 16;
 
+/// The parts of a block that a share is counted in: so few that its division stays a short one, and so many that the
+/// share of all bits is right to less than a block.
+const BLOCK_PARTS: usize = 262_144;
+
 /// The place of the one that has `j` ones below it, where the word has more than `j` ones.
 #[inline]
 fn place_below(word: u64, j: u32) -> u32
@@ -25,12 +29,21 @@ fn place_below(word: u64, j: u32) -> u32
     }
 }
 
-/// Blocks between which a bit is: before `low` there are at most as many bits of its kind as before it, and before
-/// `high` more.
+/// Blocks between which a bit is: before `low` there are `before` bits of its kind, at most as many as before the bit,
+/// and before `high` more.
 #[derive(Clone, Copy)]
 struct Bracket {
     low: usize,
+    before: usize,
     high: usize,
+}
+
+/// A block from which a bit is looked for, how many bits of its kind stand before the block, and the first stride.
+#[derive(Clone, Copy)]
+struct Start {
+    block: usize,
+    before: usize,
+    stride: usize,
 }
 
 /// Bits with the count of the ones before each block of 512 bits, so that a count reads at most nine words.
@@ -116,84 +129,109 @@ impl<'a> RankView<'a> {
         }
     }
 
-    /// About how many blocks have `count` bits of a kind, where all blocks have `all` of it, and fewer than there are.
-    /// Both counts are taken without their lowest `coarse` digits.
+    /// About how many parts of a block have `2^coarse` bits of a kind, where all blocks have `all` of it: the one
+    /// division of a search.
     #[inline]
-    #[tactic(auto, using(crate::proofs::CountLaws::shares))]
-    fn blocks_for(&self, count: usize, all: usize, coarse: u32) -> usize
-        requires coarse { coarse ≤ 48 }
-        requires few { count ≤ length (counted self.now) }
-        requires blocks { 0 < length (counted self.now) }
-        ensures share { result ≡ min (count / 2 ^ coarse * blocks (length (counted self.now)) / max (all / 2 ^ coarse) 1)
-            (blocks (length (counted self.now)) - 1) }
+    fn share_of(&self, all: usize, coarse: u32) -> usize
+        requires { coarse ≤ 48 }
+        ensures share { result ≡ blocks (length (counted self.now)) * 262144 / max (all / 2 ^ coarse) 1 }
     {
-        let blocks = self.bits.len().div_ceil(512);
-        ((count >> coarse) * blocks / (all >> coarse).max(1)).min(blocks - 1)
+        self.bits.len().div_ceil(512) * BLOCK_PARTS / (all >> coarse).max(1)
     }
 
-    /// A bracket of the block of bit `j` of this kind, from block `block` upward by strides that double.
+    /// About how many blocks have `count` bits of a kind, and fewer than there are, where `share` parts of a block have
+    /// `2^coarse` bits. The count is taken without its lowest `coarse` digits.
+    #[inline]
+    fn blocks_for(&self, count: usize, coarse: u32, share: usize) -> usize
+        requires coarse { coarse ≤ 48 }
+        requires fits { count / 2 ^ coarse * share ≤ blocks (length (counted self.now)) * 262144 }
+        requires blocks { 0 < length (counted self.now) }
+        ensures share { result ≡ min (count / 2 ^ coarse * share / 262144) (blocks (length (counted self.now)) - 1) }
+    {
+        let last = self.bits.len().div_ceil(512) - 1;
+        ((count >> coarse) * share / BLOCK_PARTS).min(last)
+    }
+
+    /// A bracket of the block of bit `j` of this kind, from a start that isn't past it upward by strides that double.
     #[tactic(auto, using(crate::proofs::CountLaws::strides))]
     fn bracket_above<C: Ledger>(
         &self,
         kind: bool,
         j: usize,
-        block: usize,
-        first: usize,
+        start: Start,
         steps: &mut Steps<C>,
     ) -> Bracket
-        requires within { block < blocks (length (counted self.now)) }
-        requires low { rank kind (counted self.now) (512 * block) ≤ j }
+        requires within { start.block < blocks (length (counted self.now)) }
+        requires before { start.before ≡ rank kind (counted self.now) (512 * start.block) }
+        requires low { start.before ≤ j }
         requires some { j < rank kind (counted self.now) (length (counted self.now)) }
-        requires stride { 1 ≤ first }
+        requires stride { 1 ≤ start.stride }
         ensures bracket { Brackets kind (counted self.now) j result.low result.high }
+        ensures before { result.before ≡ rank kind (counted self.now) (512 * result.low) }
         ensures grows { steps.old ≤ steps.new }
         ensures cost { steps.new ≤ steps.old + digits (blocks (length (counted self.now))) }
     {
         let end = self.bits.len().div_ceil(512);
-        let mut low = block;
-        let mut stride = first;
+        let mut low = start.block;
+        let mut below = start.before;
+        let mut stride = start.stride;
         while stride < end - low {
             let high = low + stride;
-            if j < self.kind_before(kind, high, steps) {
-                return Bracket { low, high };
+            let above = self.kind_before(kind, high, steps);
+            if j < above {
+                return Bracket {
+                    low,
+                    before: below,
+                    high,
+                };
             }
             low = high;
+            below = above;
             stride *= 2;
         }
-        Bracket { low, high: end }
+        Bracket {
+            low,
+            before: below,
+            high: end,
+        }
     }
 
-    /// A bracket of the block of bit `j` of this kind, from block `block` downward by strides that double.
+    /// A bracket of the block of bit `j` of this kind, from a start past it downward by strides that double.
     #[tactic(auto, using(crate::proofs::CountLaws::strides))]
     fn bracket_below<C: Ledger>(
         &self,
         kind: bool,
         j: usize,
-        block: usize,
-        first: usize,
+        start: Start,
         steps: &mut Steps<C>,
     ) -> Bracket
-        requires within { block ≤ blocks (length (counted self.now)) }
-        requires high { j < rank kind (counted self.now) (512 * block) }
-        requires stride { 1 ≤ first }
+        requires within { start.block ≤ blocks (length (counted self.now)) }
+        requires high { j < rank kind (counted self.now) (512 * start.block) }
+        requires stride { 1 ≤ start.stride }
         ensures bracket { Brackets kind (counted self.now) j result.low result.high }
+        ensures before { result.before ≡ rank kind (counted self.now) (512 * result.low) }
         ensures grows { steps.old ≤ steps.new }
         ensures cost { steps.new ≤ steps.old + digits (blocks (length (counted self.now))) }
     {
-        let mut high = block;
-        let mut stride = first;
+        let mut high = start.block;
+        let mut stride = start.stride;
         while stride < high {
             let low = high - stride;
-            if self.kind_before(kind, low, steps) <= j {
-                return Bracket { low, high };
+            let before = self.kind_before(kind, low, steps);
+            if before <= j {
+                return Bracket { low, before, high };
             }
             high = low;
             stride *= 2;
         }
-        Bracket { low: 0, high }
+        Bracket {
+            low: 0,
+            before: 0,
+            high,
+        }
     }
 
-    /// The block in a bracket that has bit `j` of this kind, by halving.
+    /// The one block in a bracket that has bit `j` of this kind, by halving.
     #[tactic(auto, using(crate::proofs::CountLaws::searches))]
     fn block_in<C: Ledger>(
         &self,
@@ -201,25 +239,29 @@ impl<'a> RankView<'a> {
         j: usize,
         bracket: Bracket,
         steps: &mut Steps<C>,
-    ) -> usize
+    ) -> Bracket
         requires bracket { Brackets kind (counted self.now) j bracket.low bracket.high }
-        ensures within { result < blocks (length (counted self.now)) }
-        ensures low { rank kind (counted self.now) (512 * result) ≤ j }
-        ensures high { j < rank kind (counted self.now) (512 * (result + 1)) }
+        requires before { bracket.before ≡ rank kind (counted self.now) (512 * bracket.low) }
+        ensures bracket { Brackets kind (counted self.now) j result.low result.high }
+        ensures before { result.before ≡ rank kind (counted self.now) (512 * result.low) }
+        ensures one_block { result.high ≡ result.low + 1 }
         ensures grows { steps.old ≤ steps.new }
         ensures cost { steps.new ≤ steps.old + digits (blocks (length (counted self.now))) }
     {
         let mut low = bracket.low;
+        let mut before = bracket.before;
         let mut high = bracket.high;
         while high - low > 1 {
             let middle = low + (high - low) / 2;
-            if self.kind_before(kind, middle, steps) <= j {
+            let count = self.kind_before(kind, middle, steps);
+            if count <= j {
                 low = middle;
+                before = count;
             } else {
                 high = middle;
             }
         }
-        low
+        Bracket { low, before, high }
     }
 
     /// Block `block`, which has `before` bits of a kind before it, moved by `away` blocks toward that of bit `j`.
@@ -237,35 +279,42 @@ impl<'a> RankView<'a> {
         }
     }
 
-    /// A bracket of the block of bit `j` of this kind, from block `block`, which has `before` of it before it,
-    /// toward that bit by strides that double.
-    fn bracket_from<C: Ledger>(
-        &self,
-        kind: bool,
-        j: usize,
-        block: usize,
-        before: usize,
-        first: usize,
-        steps: &mut Steps<C>,
-    ) -> Bracket
-        requires within { block < blocks (length (counted self.now)) }
-        requires before { before ≡ rank kind (counted self.now) (512 * block) }
-        requires some { j < rank kind (counted self.now) (length (counted self.now)) }
-        requires stride { 1 ≤ first }
-        ensures bracket { Brackets kind (counted self.now) j result.low result.high }
+    /// Where to begin to look for bit `j` of this kind, of which there are `all`: at the block that an even share suggests,
+    /// moved once where its count says that the bit is further off.
+    #[tactic(auto, using(crate::proofs::CountLaws::nearer))]
+    fn start_of<C: Ledger>(&self, kind: bool, j: usize, all: usize, steps: &mut Steps<C>) -> Start
+        requires all { all ≡ rank kind (counted self.now) (length (counted self.now)) }
+        requires some { j < all }
+        ensures within { result.block < blocks (length (counted self.now)) }
+        ensures before { result.before ≡ rank kind (counted self.now) (512 * result.block) }
+        ensures stride { 1 ≤ result.stride }
         ensures grows { steps.old ≤ steps.new }
-        ensures cost { steps.new ≤ steps.old + digits (blocks (length (counted self.now))) }
+        ensures cost { steps.new ≤ steps.old + 2 }
     {
-        if before <= j {
-            self.bracket_above(kind, j, block, first, steps)
-        } else {
-            self.bracket_below(kind, j, block, first, steps)
+        let coarse = (usize::BITS - all.leading_zeros()).saturating_sub(SHARE_DIGITS);
+        let share = self.share_of(all, coarse);
+        let block = self.blocks_for(j, coarse, share);
+        let before = self.kind_before(kind, block, steps);
+        let away = self.blocks_for(j.abs_diff(before), coarse, share);
+        if away == 0 {
+            return Start {
+                block,
+                before,
+                stride: 1,
+            };
+        }
+        let nearer = self.moved_block(block, before, j, away);
+        let before = self.kind_before(kind, nearer, steps);
+        let first = self.blocks_for(j.abs_diff(before), coarse, share) + 1;
+        Start {
+            block: nearer,
+            before,
+            stride: first,
         }
     }
 
-    /// A bracket of the block of bit `j` of this kind, of which there are `all`: from the block that an even share
-    /// suggests, moved once where its count says that the bit is further off.
-    #[tactic(auto, using(crate::proofs::CountLaws::nearer))]
+    /// A bracket of the block of bit `j` of this kind, of which there are `all`: from where the search begins toward that
+    /// bit by strides that double.
     fn bracket_of<C: Ledger>(
         &self,
         kind: bool,
@@ -276,29 +325,25 @@ impl<'a> RankView<'a> {
         requires all { all ≡ rank kind (counted self.now) (length (counted self.now)) }
         requires some { j < all }
         ensures bracket { Brackets kind (counted self.now) j result.low result.high }
+        ensures before { result.before ≡ rank kind (counted self.now) (512 * result.low) }
         ensures grows { steps.old ≤ steps.new }
         ensures cost { steps.new ≤ steps.old + digits (blocks (length (counted self.now))) + 2 }
     {
-        let coarse = (usize::BITS - all.leading_zeros()).saturating_sub(SHARE_DIGITS);
-        let block = self.blocks_for(j, all, coarse);
-        let before = self.kind_before(kind, block, steps);
-        let away = self.blocks_for(j.abs_diff(before), all, coarse);
-        if away == 0 {
-            return self.bracket_from(kind, j, block, before, 1, steps);
+        let start = self.start_of(kind, j, all, steps);
+        if start.before <= j {
+            self.bracket_above(kind, j, start, steps)
+        } else {
+            self.bracket_below(kind, j, start, steps)
         }
-        let nearer = self.moved_block(block, before, j, away);
-        let before = self.kind_before(kind, nearer, steps);
-        let first = self.blocks_for(j.abs_diff(before), all, coarse) + 1;
-        self.bracket_from(kind, j, nearer, before, first, steps)
     }
 
-    /// The word that has a 1 where a bit is of this kind, by one step.
+    /// The word that has a 1 where a bit is of this kind, and from the end of the list on any bits, by one step.
     fn kind_chunk<C: Ledger>(&self, kind: bool, word: usize, steps: &mut Steps<C>) -> u64
         requires { 64 * word < length (counted self.now) }
         ensures chunk { KindChunk kind (counted self.now) word result }
         ensures one_step { steps.new ≡ steps.old + 1 }
     {
-        let chunk = self.bits.chunk(word, steps);
+        let chunk = self.bits.word(word, steps);
         if kind { chunk } else { !chunk }
     }
 
@@ -354,7 +399,7 @@ impl<'a> RankView<'a> {
     ) -> Option<usize>
         ensures selected { IsSelected kind (counted self.now) j result }
         ensures some_steps { steps.old + 1 ≤ steps.new }
-        ensures cost { steps.new ≤ steps.old + 2 * digits (blocks (length (counted self.now))) + 12 }
+        ensures cost { steps.new ≤ steps.old + 2 * digits (blocks (length (counted self.now))) + 11 }
     {
         let all = self.all_of_kind(kind, steps);
         if all <= j {
@@ -362,8 +407,7 @@ impl<'a> RankView<'a> {
         }
         let bracket = self.bracket_of(kind, j, all, steps);
         let block = self.block_in(kind, j, bracket, steps);
-        let before = self.kind_before(kind, block, steps);
-        Some(self.select_in(kind, j, block, before, steps))
+        Some(self.select_in(kind, j, block.low, block.before, steps))
     }
 
     /// Whether all bits before block `block` are of this kind, by one step.

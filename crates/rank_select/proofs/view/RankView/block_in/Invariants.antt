@@ -1,4 +1,4 @@
-use Rattle.std.proofs.Common.{◌<◌, ◌≤◌, ◌+◌, ◌*◌, ◌-◌, length}
+use Rattle.std.proofs.Common.{◌≡◌, ◌<◌, ◌≤◌, ◌+◌, ◌*◌, ◌-◌, length}
 use Rattle.bit_words.specs.Bits.{rank}
 use Rattle.bit_words.specs.Digits.{digits}
 use Rattle.rank_select.specs.Counts.{blocks}
@@ -9,7 +9,8 @@ abbrev pub invariant-loop-high : goal.invariant-loop-high
 invariant-loop-high g l = record {
   order : l.low < l.high;
   within : l.high ≤ blocks (length (counted l.self));
-  below : rank l.kind (counted l.self) (512 * l.low) ≤ l.j;
+  before : l.before ≡ rank l.kind (counted l.self) (512 * l.low);
+  below : l.before ≤ l.j;
   above : l.j < rank l.kind (counted l.self) (512 * l.high);
   grows : l.initial.steps ≤ l.steps;
   steps : l.steps + digits (l.high - l.low - 1) ≤ l.initial.steps + digits (blocks (length (counted l.self)));

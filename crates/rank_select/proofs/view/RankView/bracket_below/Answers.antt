@@ -5,14 +5,14 @@ use Rattle.rank_select.specs.RankView.{counted}
 use Rattle.rank_select.proofs.CountLaws.{stride_cost, digits-double, some_in}
 use Rattle.rank_select.proofs.view.RankView.bracket_below.Goals as goal
 
-pub returns-then-kind_before-j-clause-cost : goal.returns-then-kind_before-j-clause-cost
-returns-then-kind_before-j-clause-cost g c =
-    let cost = stride_cost c.args.steps.now c.loop-stride.steps c.args.first c.loop-stride.stride (blocks (length (counted c.args.self.now))) c.requires.stride c.loop-stride.invariant.doubled (omega arith) in
+pub returns-then-before-j-clause-cost : goal.returns-then-before-j-clause-cost
+returns-then-before-j-clause-cost g c =
+    let cost = stride_cost c.args.steps.now c.loop-stride.steps c.args.start.stride c.loop-stride.stride (blocks (length (counted c.args.self.now))) c.requires.stride c.loop-stride.invariant.doubled (omega arith) in
     omega arith
 
 pub loop-stride-preserved : goal.loop-stride-preserved
 loop-stride-preserved g c =
-    let cost = stride_cost c.args.steps.now c.loop-stride.steps c.args.first c.loop-stride.stride (blocks (length (counted c.args.self.now))) c.requires.stride c.loop-stride.invariant.doubled (omega arith) in
+    let cost = stride_cost c.args.steps.now c.loop-stride.steps c.args.start.stride c.loop-stride.stride (blocks (length (counted c.args.self.now))) c.requires.stride c.loop-stride.invariant.doubled (omega arith) in
     let more = digits-double c.loop-stride.stride c.loop-stride.invariant.some in
     record {
       within = omega arith;

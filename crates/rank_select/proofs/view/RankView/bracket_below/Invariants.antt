@@ -11,7 +11,7 @@ invariant-loop-stride g l = record {
   above : l.j < rank l.kind (counted l.self) (512 * l.high);
   some : 1 ≤ l.stride;
   grows : l.initial.steps ≤ l.steps;
-  doubled : l.steps + digits l.first ≡ l.initial.steps + digits l.stride;
+  doubled : l.steps + digits l.fn.start.stride ≡ l.initial.steps + digits l.stride;
   steps : l.steps ≤ l.initial.steps + digits (blocks (length (counted l.self)));
 }
 
