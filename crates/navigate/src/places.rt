@@ -19,7 +19,7 @@ pub fn components_below<C: Ledger>(served: Served<'_>, place: usize, steps: &mut
     ensures from { (i : ℕ) → result ≤ i → i < length (contents_of_view served.entry).place_order
         → place ≤ place_at (contents_of_view served.entry) i }
     ensures grows { steps.old ≤ steps.new }
-    ensures cost { steps.new ≤ steps.old + 4 * digits (component_count (contents_of_view served.entry)) }
+    ensures cost { steps.new ≤ steps.old + 2 * digits (component_count (contents_of_view served.entry)) }
 {
     let mut low = 0;
     let mut high = served.counts().components as usize;
@@ -70,7 +70,7 @@ pub fn isolated_below<C: Ledger>(served: Served<'_>, place: usize, steps: &mut S
     ensures from { (i : ℕ) → result ≤ i → i < length (contents_of_view served.entry).isolated
         → place ≤ slice_index (contents_of_view served.entry).isolated i }
     ensures grows { steps.old ≤ steps.new }
-    ensures cost { steps.new ≤ steps.old + 2 * line_digits (contents_of_view served.entry) }
+    ensures cost { steps.new ≤ steps.old + line_digits (contents_of_view served.entry) }
 {
     let mut low = 0;
     let mut high = served.counts().isolated as usize;
@@ -112,11 +112,7 @@ pub fn isolated_to<C: Ledger>(
 }
 
 /// The first position of the component at entry `j` of the order, and which component it is.
-pub fn start_at<C: Ledger>(
-    served: Served<'_>,
-    j: usize,
-    steps: &mut Steps<C>,
-) -> (usize, usize)
+pub fn start_at<C: Ledger>(served: Served<'_>, j: usize, steps: &mut Steps<C>) -> (usize, usize)
     requires { j < length (contents_of_view served).place_order }
     ensures start { result.0 ≡ start_of (contents_of_view served.entry).code
         (slice_index (contents_of_view served.entry).place_order j) }

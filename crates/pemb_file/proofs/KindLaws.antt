@@ -269,6 +269,17 @@ pub directory-width : (c : HeaderCounts) (n : ℕ) → is_directory n ≡ true �
 unfolding section sections
 directory-width c = each_directory (λ n. (section c n).width ≡ 32) refl refl refl refl
 
+-- the sections of numbers of half a word, other than directories
+pub record HalfWords (c : HeaderCounts) : Type 0 where
+  pub starts : (section c 9).width ≡ 32
+  pub places : (section c 17).width ≡ 32
+  pub order : (section c 18).width ≡ 32
+  pub isolated : (section c 19).width ≡ 32
+
+pub half_words : (c : HeaderCounts) → HalfWords c
+unfolding section sections
+half_words c = record { starts = refl; places = refl; order = refl; isolated = refl }
+
 pub counted : (c : HeaderCounts) → Counted c
 unfolding section sections
 counted c = record { n1 = refl; n3 = refl; n6 = refl; n9 = refl; n20 = refl; n25 = refl; n34 = refl; n44 = refl; n54 = refl; n64 = refl }

@@ -2,7 +2,7 @@
 
 ghost use Rattle.std.specs.Prelude.{IsTrue};
 ghost use Rattle.bit_words.specs.BitView.{bits_of};
-ghost use Rattle.bit_words.specs.PackedView.{fields_of};
+ghost use Rattle.bit_words.specs.PackedView.{fields_of, width_of};
 ghost use Rattle.parens.specs.ParenView.{parens_of};
 ghost use Rattle.turan_code.specs.TuranView.{code_of_view};
 ghost use Rattle.id_names.specs.Views.{ids_of};
@@ -33,6 +33,9 @@ pub struct OpenFile<'a> {
     ghost whole: { IsTrue (is_whole (contents_with (code_of_view code) (bits_of forward) (ids_of nodes) (ids_of edges)
         (ids_of faces) (ids_of regions) (fields_of places) (fields_of place_order) (fields_of isolated)
         (parens_of region_tree) (fields_of members))) },
+    ghost places_width: { width_of places ≡ 32 },
+    ghost order_width: { width_of place_order ≡ 32 },
+    ghost isolated_width: { width_of isolated ≡ 32 },
 }
 
 impl<'a> OpenFile<'a> {
@@ -42,7 +45,7 @@ impl<'a> OpenFile<'a> {
     ghost use Rattle.turan_code.specs.TuranView.{code_of_view};
     ghost use Rattle.id_names.specs.Views.{ids_of};
     ghost use Rattle.bit_words.specs.BitView.{bits_of};
-    ghost use Rattle.bit_words.specs.PackedView.{fields_of};
+    ghost use Rattle.bit_words.specs.PackedView.{fields_of, width_of};
     ghost use Rattle.parens.specs.ParenView.{parens_of};
     ghost use Rattle.file_laws.specs.Contents.{contents_with};
     ghost use Rattle.file_laws.specs.Lawful.{is_whole};
@@ -62,9 +65,12 @@ impl<'a> OpenFile<'a> {
         region_tree: ParenView<'a>,
         members: PackedView<'a>,
     ) -> OpenFile<'a>
-        requires { IsTrue (is_whole (contents_with (code_of_view code) (bits_of forward) (ids_of nodes) (ids_of edges)
-            (ids_of faces) (ids_of regions) (fields_of places) (fields_of place_order) (fields_of isolated)
-            (parens_of region_tree) (fields_of members))) }
+        requires whole { IsTrue (is_whole (contents_with (code_of_view code) (bits_of forward) (ids_of nodes)
+            (ids_of edges) (ids_of faces) (ids_of regions) (fields_of places) (fields_of place_order)
+            (fields_of isolated) (parens_of region_tree) (fields_of members))) }
+        requires places_width { width_of places ≡ 32 }
+        requires order_width { width_of place_order ≡ 32 }
+        requires isolated_width { width_of isolated ≡ 32 }
         ensures { contents_of_file result ≡ contents_with (code_of_view code.entry) (bits_of forward.entry)
             (ids_of nodes.entry) (ids_of edges.entry) (ids_of faces.entry) (ids_of regions.entry)
             (fields_of places.entry) (fields_of place_order.entry) (fields_of isolated.entry)

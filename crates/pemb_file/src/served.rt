@@ -101,30 +101,27 @@ impl<'a> Served<'a> {
     pub fn place<C: Ledger>(&self, component: usize, steps: &mut Steps<C>) -> u32
         requires { component < length (contents_of_view self.now).places }
         ensures place { result ≡ slice_index (contents_of_view self.now).places component }
-        ensures some_steps { steps.old + 1 ≤ steps.new }
-        ensures few_steps { steps.new ≤ steps.old + 2 }
+        ensures one_step { steps.new ≡ steps.old + 1 }
     {
-        self.file.places.field(component, steps) as u32
+        self.file.places.half_word(component, steps) as u32
     }
 
     /// The component at a place of the order by place and then by the signed edge at the start.
     pub fn place_order<C: Ledger>(&self, j: usize, steps: &mut Steps<C>) -> u32
         requires { j < length (contents_of_view self.now).place_order }
         ensures component { result ≡ slice_index (contents_of_view self.now).place_order j }
-        ensures some_steps { steps.old + 1 ≤ steps.new }
-        ensures few_steps { steps.new ≤ steps.old + 2 }
+        ensures one_step { steps.new ≡ steps.old + 1 }
     {
-        self.file.place_order.field(j, steps) as u32
+        self.file.place_order.half_word(j, steps) as u32
     }
 
     /// The place of an isolated node.
     pub fn isolated<C: Ledger>(&self, j: usize, steps: &mut Steps<C>) -> u32
         requires { j < length (contents_of_view self.now).isolated }
         ensures place { result ≡ slice_index (contents_of_view self.now).isolated j }
-        ensures some_steps { steps.old + 1 ≤ steps.new }
-        ensures few_steps { steps.new ≤ steps.old + 2 }
+        ensures one_step { steps.new ≡ steps.old + 1 }
     {
-        self.file.isolated.field(j, steps) as u32
+        self.file.isolated.half_word(j, steps) as u32
     }
 
     /// The regions, and for face 0 and each face by number the one that it is in. No word is read.

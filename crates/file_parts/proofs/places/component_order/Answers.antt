@@ -14,7 +14,7 @@ loop-j-preserved g c =
     let each = m.orders in
     record {
       order = taken_more all.place_order c.loop-j.j 0 c.loop-j.order.items _ c.place_order-component.result (omega (arith, c.loop-j-test.true, each, c.counts-components.ensures.components)) c.loop-j.invariant.order c.in_ok-push.ensures.items c.place_order-component.ensures.component;
-      grows = omega (arith, c.loop-j.invariant.grows, c.place_order-component.ensures.some_steps);
+      grows = omega (arith, c.loop-j.invariant.grows, c.place_order-component.ensures.one_step);
     }
 
 pub returns-clause-order : goal.returns-clause-order

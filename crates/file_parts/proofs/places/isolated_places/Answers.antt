@@ -8,5 +8,5 @@ loop-j-preserved g c =
     let all = contents_of_view c.args.served in
     record {
       places = taken_more all.isolated c.loop-j.j 0 c.loop-j.places.items _ c.isolated-place.result (omega (arith, c.loop-j-test.true, c.counts-isolated.ensures.isolated)) c.loop-j.invariant.places c.in_ok-push.ensures.items c.isolated-place.ensures.place;
-      grows = omega (arith, c.loop-j.invariant.grows, c.isolated-place.ensures.some_steps);
+      grows = omega (arith, c.loop-j.invariant.grows, c.isolated-place.ensures.one_step);
     }

@@ -71,4 +71,4 @@ returns-clause-face g c =
 pub returns-clause-cost : goal.returns-clause-cost
 returns-clause-cost g c =
     let d = digits_view (contents_of_view c.args.served) c.args.served.whole (code_of_view c.code-code.result.now) c.code-code.ensures.code in
-    omega (arith, d, c.in-Some.ensures.cost, c.component_of.ensures.cost, c.place.ensures.few_steps)
+    omega (arith, d, c.in-Some.ensures.cost, c.component_of.ensures.cost, c.place.ensures.one_step)

@@ -41,8 +41,8 @@ loop-low-preserved-then-place g c =
       within = i.within;
       before = λ k l. let up = places_rise m c.args.served.whole k middle (omega (arith, l)) (omega (arith, i.within, c.loop-low-test.true)) in omega (arith, up, at, c.if-place.true);
       from = i.from;
-      grows = omega (arith, i.grows, c.place_order-component.ensures.some_steps, c.place.ensures.some_steps);
-      paid = omega (arith, half, i.paid, c.place_order-component.ensures.few_steps, c.place.ensures.few_steps);
+      grows = omega (arith, i.grows, c.place_order-component.ensures.one_step, c.place.ensures.one_step);
+      paid = omega (arith, half, i.paid, c.place_order-component.ensures.one_step, c.place.ensures.one_step);
     }
 
 pub loop-low-preserved : goal.loop-low-preserved
@@ -59,8 +59,8 @@ loop-low-preserved g c =
       within = omega (arith, i.within, c.loop-low-test.true);
       before = i.before;
       from = λ k l below. let up = places_rise m c.args.served.whole middle k l below in omega (arith, up, at, c.if-place.false);
-      grows = omega (arith, i.grows, c.place_order-component.ensures.some_steps, c.place.ensures.some_steps);
-      paid = omega (arith, half, i.paid, c.place_order-component.ensures.few_steps, c.place.ensures.few_steps);
+      grows = omega (arith, i.grows, c.place_order-component.ensures.one_step, c.place.ensures.one_step);
+      paid = omega (arith, half, i.paid, c.place_order-component.ensures.one_step, c.place.ensures.one_step);
     }
 
 pub returns-clause-from : goal.returns-clause-from

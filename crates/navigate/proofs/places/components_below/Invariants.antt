@@ -14,7 +14,7 @@ invariant-loop-low g l =
       before : (i : ℕ) → i < l.low → place_at m i < l.place;
       from : (i : ℕ) → l.high ≤ i → i < length m.place_order → l.place ≤ place_at m i;
       grows : l.initial.steps ≤ l.steps;
-      paid : l.steps + 4 * digits (l.high - l.low) ≤ l.initial.steps + 4 * digits (component_count m);
+      paid : l.steps + 2 * digits (l.high - l.low) ≤ l.initial.steps + 2 * digits (component_count m);
     }
 
 abbrev pub decreases-loop-low : goal.decreases-loop-low

@@ -33,9 +33,9 @@ returns-then-place-clause-from g c = λ i l below.
 pub returns-then-place-clause-cost : goal.returns-then-place-clause-cost
 returns-then-place-clause-cost g c =
     let some = some_digits (contents_of_view c.args.served) in
-    omega (arith, some, c.place_order-component.ensures.few_steps, c.place.ensures.few_steps)
+    omega (arith, some, c.place_order-component.ensures.one_step, c.place.ensures.one_step)
 
 pub returns-clause-cost : goal.returns-clause-cost
 returns-clause-cost g c =
     let few = digits_components (contents_of_view c.args.served) c.args.served.whole in
-    omega (arith, few, c.place_order-component.ensures.few_steps, c.place.ensures.few_steps, c.components_below.ensures.cost)
+    omega (arith, few, c.place_order-component.ensures.one_step, c.place.ensures.one_step, c.components_below.ensures.cost)

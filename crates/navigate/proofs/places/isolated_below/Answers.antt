@@ -32,8 +32,8 @@ loop-low-preserved-then-isolated-place g c =
       within = i.within;
       before = λ k l. let up = nodes_rise m c.args.served.whole k middle (omega (arith, l)) (omega (arith, i.within, c.loop-low-test.true)) in omega (arith, up, at, c.if-isolated-place.true);
       from = i.from;
-      grows = omega (arith, i.grows, c.isolated.ensures.some_steps);
-      paid = omega (arith, half, i.paid, c.isolated.ensures.few_steps);
+      grows = omega (arith, i.grows, c.isolated.ensures.one_step);
+      paid = omega (arith, half, i.paid, c.isolated.ensures.one_step);
     }
 
 pub loop-low-preserved : goal.loop-low-preserved
@@ -50,8 +50,8 @@ loop-low-preserved g c =
       within = omega (arith, i.within, c.loop-low-test.true);
       before = i.before;
       from = λ k l below. let up = nodes_rise m c.args.served.whole middle k l below in omega (arith, up, at, c.if-isolated-place.false);
-      grows = omega (arith, i.grows, c.isolated.ensures.some_steps);
-      paid = omega (arith, half, i.paid, c.isolated.ensures.few_steps);
+      grows = omega (arith, i.grows, c.isolated.ensures.one_step);
+      paid = omega (arith, half, i.paid, c.isolated.ensures.one_step);
     }
 
 pub returns-clause-from : goal.returns-clause-from

@@ -1,4 +1,4 @@
-use Rattle.std.proofs.Common.{◌<◌, ◌≤◌, ◌+◌, ◌-◌, ◌*◌, ℕ, length}
+use Rattle.std.proofs.Common.{◌<◌, ◌≤◌, ◌+◌, ◌-◌, ℕ, length}
 use Rattle.std.specs.Prelude.{slice_index}
 use Rattle.bit_words.specs.Digits.{digits}
 use Rattle.pemb_file.specs.Served.{contents_of_view}
@@ -13,7 +13,7 @@ invariant-loop-low g l =
       before : (i : ℕ) → i < l.low → slice_index m.isolated i < l.place;
       from : (i : ℕ) → l.high ≤ i → i < length m.isolated → l.place ≤ slice_index m.isolated i;
       grows : l.initial.steps ≤ l.steps;
-      paid : l.steps + 2 * digits (l.high - l.low) ≤ l.initial.steps + 2 * digits (length m.isolated);
+      paid : l.steps + digits (l.high - l.low) ≤ l.initial.steps + digits (length m.isolated);
     }
 
 abbrev pub decreases-loop-low : goal.decreases-loop-low

@@ -10,9 +10,9 @@ returns-then-isolated-place-clause-from g c = λ i l below.
     omega (arith, up, c.isolated.ensures.place, c.if-isolated-place.true)
 
 pub returns-then-isolated-place-clause-cost : goal.returns-then-isolated-place-clause-cost
-returns-then-isolated-place-clause-cost g c = let some = some_digits (contents_of_view c.args.served) in omega (arith, some, c.isolated.ensures.few_steps)
+returns-then-isolated-place-clause-cost g c = let some = some_digits (contents_of_view c.args.served) in omega (arith, some, c.isolated.ensures.one_step)
 
 pub returns-clause-cost : goal.returns-clause-cost
 returns-clause-cost g c =
     let some = some_digits (contents_of_view c.args.served) in
-    omega (arith, some, c.isolated.ensures.few_steps, c.isolated_below.ensures.cost)
+    omega (arith, some, c.isolated.ensures.one_step, c.isolated_below.ensures.cost)

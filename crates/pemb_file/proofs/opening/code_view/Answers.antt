@@ -3,7 +3,7 @@ use Rattle.bit_words.specs.WordView.{words_of as view_words}
 use Rattle.rank_select.specs.Counts.{counts_of}
 use Rattle.code_laws.specs.SeqFault.{is_sound}
 use Rattle.file_laws.specs.Layout.{counts_in}
-use Rattle.pemb_file.proofs.KindLaws.{directory-width}
+use Rattle.pemb_file.proofs.KindLaws.{directory-width, half_words}
 use Rattle.pemb_file.proofs.CodeParts.{code-is}
 use Rattle.pemb_file.proofs.Rights.{rights, tree_parens, dual_parens}
 use Rattle.pemb_file.proofs.opening.code_view.Goals as goal
@@ -18,6 +18,9 @@ paren_view-requires c = let r = rights (view_words c.args.image.now.words) c.arg
 
 pub paren_view-requires-2 : goal.paren_view-requires-2
 paren_view-requires-2 c = let r = rights (view_words c.args.image.now.words) c.args.image.now.size c.requires.directories in dual_parens (view_words c.args.image.now.words) r c.requires.sound
+
+pub new-requires-2-clause-width : goal.new-requires-2-clause-width
+new-requires-2-clause-width c = c.fields-2.ensures.width ∙ (half_words (counts_in (view_words c.args.image.now.words))).starts
 
 pub new-requires-2-clause-sound : goal.new-requires-2-clause-sound
 new-requires-2-clause-sound c =
