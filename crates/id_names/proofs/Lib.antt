@@ -8,6 +8,7 @@ pub mod HighParts
 pub mod DigitBounds
 pub mod Ids
 pub mod Walks
+pub mod SideBySide
 pub mod FaultLaws
 pub mod Many
 pub mod Following
