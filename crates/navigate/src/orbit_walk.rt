@@ -71,23 +71,17 @@ impl<'a> OrbitWalk<'a> {
         }
     }
 
-    /// The same walk begun anew, at a position.
-    pub(crate) fn anew(self, p: usize) -> OrbitWalk<'a>
-        requires { p < length (contents_in self).code.a }
-        ensures contents { contents_in result ≡ contents_in self.entry }
-        ensures positions { positions_left result ≡ orbit (contents_in self.entry).code self.entry.kind p }
+    /// Begins anew, at a position.
+    pub(crate) fn begin_at(&mut self, p: usize)
+        requires { p < length (contents_in self.old).code.a }
+        ensures contents { contents_in self.new ≡ contents_in self.old }
+        ensures kind { self.new.kind ≡ self.old.kind }
+        ensures positions { positions_left self.new ≡ orbit (contents_in self.old).code self.old.kind p }
     {
-        let mut kept = self.kept;
-        kept.turn_to(p);
-        OrbitWalk {
-            served: self.served,
-            kind: self.kind,
-            first: p,
-            at: p,
-            left: self.served.code().len(),
-            component: self.component,
-            kept,
-        }
+        self.kept.turn_to(p);
+        self.first = p;
+        self.at = p;
+        self.left = self.served.code().len();
     }
 
     /// A walk at its end.

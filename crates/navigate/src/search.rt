@@ -39,5 +39,6 @@ pub(crate) fn begun_at_smallest<'a, C: Ledger>(
             best = found;
         }
     }
-    walk.anew(best.0)
+    walk.begin_at(best.0);
+    walk
 }

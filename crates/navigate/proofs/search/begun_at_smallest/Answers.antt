@@ -89,7 +89,7 @@ returns-clause-positions g c =
     let i = c.loop-found.invariant in
     let last = c.in_default-ranked.ensures in
     let best = least-none m c.loop-found.best.0 (positions_left c.loop-found.walk) _ last.next i.least_left in
-    c.anew.ensures.positions ∙ ap (λ (x : Contents). orbit x.code c.ranked-in-loop-found.new.self.kind c.loop-found.best.0) (last.contents ∙ i.map)
+    c.begin_at.ensures.positions ∙ ap (λ (x : Contents). orbit x.code c.ranked-in-loop-found.new.self.kind c.loop-found.best.0) (last.contents ∙ i.map)
     ∙ ap (λ k. orbit m.code k c.loop-found.best.0) (last.kind ∙ i.kind) ∙ ap (orbit m.code c.args.kind) best
 
 pub returns-clause-within : goal.returns-clause-within
