@@ -1,6 +1,6 @@
 //! A lawful file that is open.
 
-ghost use Rattle.std.specs.Prelude.{IsTrue};
+ghost use Rattle.std.specs.Prelude.{◌≡◌, IsTrue};
 ghost use Rattle.bit_words.specs.BitView.{bits_of};
 ghost use Rattle.bit_words.specs.PackedView.{fields_of, width_of};
 ghost use Rattle.parens.specs.ParenView.{parens_of};
