@@ -1,6 +1,6 @@
 //! Answers on their way out: gathered until a buffer is full.
 
-ghost use Rattle.std.specs.Prelude.{◌≡◌, ◌≤◌, ◌+◌, ◌++◌, [], length, OnOk};
+ghost use Rattle.std.specs.Prelude.{◌≡◌, ◌≤◌, ◌+◌, ◌∷◌, ◌++◌, [], length, OnOk};
 ghost use Rattle.topo_serve.specs.Gathering.{out_at, Writes};
 
 use arrayvec::ArrayVec;
@@ -35,6 +35,24 @@ pub(crate) fn gather<K: Sink>(out: &mut K, text: &mut Gathered, bytes: &[u8]) ->
         put_out(out, text)?;
     }
     text.try_extend_from_slice(bytes).unwrap();
+    Ok(())
+}
+
+/// Gathers a space and the digits of a number.
+pub(crate) fn gather_spaced<K: Sink>(
+    out: &mut K,
+    text: &mut Gathered,
+    digits: &[u8],
+) -> Result<(), Failed>
+    requires { length digits.now ≤ 64 }
+    ensures { Writes result (out_at (K.held out.old) (K.faults out.old) text.old.items)
+        (out_at (K.held out.new) (K.faults out.new) text.new.items) (32 ∷ digits.now) }
+{
+    if text.remaining_capacity() <= digits.len() {
+        put_out(out, text)?;
+    }
+    text.try_push(b' ').unwrap();
+    text.try_extend_from_slice(digits).unwrap();
     Ok(())
 }
 

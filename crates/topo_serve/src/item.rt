@@ -5,7 +5,7 @@ ghost use Rattle.topo_base.specs.Script.{item_text};
 ghost use Rattle.topo_serve.specs.Gathering.{out_at, Writes};
 ghost use Rattle.topo_serve.specs.Items.{item_of};
 
-use crate::gathered::{Gathered, gather_both};
+use crate::gathered::{Gathered, gather_both, gather_spaced};
 use itoa::Buffer;
 use ports::{Failed, Sink};
 use topo_base::{IdNumber, NodeId, Signed};
@@ -32,8 +32,8 @@ pub(crate) fn gather_item<K: Sink>(
 {
     let mut digits = Buffer::new();
     match item {
-        Item::Edge(edge) => gather_both(out, text, b" ", digits.format(edge.value()).as_bytes()),
-        Item::Number(number) => gather_both(out, text, b" ", digits.format(number).as_bytes()),
+        Item::Edge(edge) => gather_spaced(out, text, digits.format(edge.value()).as_bytes()),
+        Item::Number(number) => gather_spaced(out, text, digits.format(number).as_bytes()),
         Item::Node(node) => gather_both(out, text, b" n", digits.format(node.0).as_bytes()),
     }
 }

@@ -12,4 +12,4 @@ unfolding positions_left
 returns-clause-positions c =
     let w = c.args.self.now in
     let code = (contents_in w).code in
-    ap (λ n. walk n (step code w.kind) c.args.p c.args.p) (c.len.ensures.len ∙ ap (λ (k : Code). length k.a) c.code.ensures.code)
+    ap (λ n. walk n (step code w.kind) c.args.p c.args.p) (c.len-self.ensures.len ∙ ap (λ (k : Code). length k.a) c.code.ensures.code)

@@ -13,19 +13,19 @@ invariant_of-self g c = let w = c.args.self.now in record { within = w.within; r
 pub after-requires : goal.after-requires
 after-requires g c =
     let w = c.args.self.now in
-    subst (λ (x : Code). c.in-Some.kept.over < length x.a) (sym c.code.ensures.code) (c.in-Some.ensures.stop (contents_in w).code w.kind w.right).over_within
+    subst (λ (x : Code). c.in-Some.kept.over < length x.a) (sym c.code-code.ensures.code) (c.in-Some.ensures.stop (contents_in w).code w.kind w.right).over_within
 
 pub returns-in-Some-clause-step : goal.returns-in-Some-clause-step
 returns-in-Some-clause-step g c =
     let w = c.args.self.now in
     let code = (contents_in w).code in
-    (stop_kept (code_of_view c.code.result.now) code w.kind w.at c.in-Some.kept.over c.after.result c.in-Some.kept c.code.ensures.code (c.in-Some.ensures.stop code w.kind w.right) c.in-Some.ensures.at refl c.after.ensures.after
+    (stop_kept (code_of_view c.code-code.result.now) code w.kind w.at c.in-Some.kept.over c.after.result c.in-Some.kept c.code-code.ensures.code (c.in-Some.ensures.stop code w.kind w.right) c.in-Some.ensures.at refl c.after.ensures.after
     c.after.ensures.within).next
 
 pub returns-in-Some-clause-cost : goal.returns-in-Some-clause-cost
 returns-in-Some-clause-cost g c =
     let w = c.args.self.now.served in
-    let d = digits_view (contents_of_view w) w.whole (code_of_view c.code.result.now) c.code.ensures.code in
+    let d = digits_view (contents_of_view w) w.whole (code_of_view c.code-code.result.now) c.code-code.ensures.code in
     omega (arith, d, c.after.ensures.cost)
 
 pub returns-in-Some-clause-positions : goal.returns-in-Some-clause-positions
@@ -35,3 +35,12 @@ returns-in-Some-clause-positions g c = refl
 pub returns-in-None-clause-positions : goal.returns-in-None-clause-positions
 unfolding positions_left
 returns-in-None-clause-positions g c = refl
+
+pub invariant_of-self-in-None : goal.invariant_of-self-in-None
+invariant_of-self-in-None g c = let w = c.args.self.now in record { within = w.within; right = c.pass.ensures.kept (contents_in w).code w.kind w.right }
+
+pub returns-in-None-clause-cost : goal.returns-in-None-clause-cost
+returns-in-None-clause-cost g c =
+    let w = c.args.self.now.served in
+    let d = digits_view (contents_of_view w) w.whole (code_of_view c.code-code.result.now) c.code-code.ensures.code in
+    omega (arith, d, c.step.ensures.cost)
