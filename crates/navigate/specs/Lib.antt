@@ -10,3 +10,4 @@ pub mod Beside
 pub mod RegionWalk
 pub mod AdjacentWalk
 pub mod Standing
+pub mod Several

@@ -7,6 +7,7 @@ ghost use Rattle.navigate.specs.OrbitWalk as orbits;
 
 use crate::orbit_walk::OrbitWalk;
 use crate::places::start_at;
+use crate::several::Several;
 use crate::{names, positions};
 use bit_words::Steps;
 use pemb_file::Served;
@@ -67,6 +68,7 @@ impl<'a> FaceWalk<'a> {
     ghost use Rattle.navigate.specs.FaceWalk.{contents_in, face_positions, rest, allowance};
     ghost use Rattle.navigate.specs.Beside.{place_across};
     ghost use Rattle.file_laws.specs.MapOfFile.{face_at_place};
+    ghost use Rattle.navigate.specs.Several.{edges_in};
 
     /// What is left of a ring, and then the outer rings of components from one entry of the order to before another.
     pub(crate) fn settled<C: Ledger>(
@@ -163,5 +165,21 @@ impl<'a> FaceWalk<'a> {
             }
             None => None,
         }
+    }
+
+    /// The next signed edges, as many as are given at once, or fewer: none at the end alone.
+    pub fn several<C: Ledger>(&mut self, steps: &mut Steps<C>) -> Several
+        ensures contents { contents_in self.new ≡ contents_in self.old }
+        ensures gives { rest self.old ≡ edges_in result ++ rest self.new }
+        ensures end { edges_in result ≡ [] → rest self.old ≡ [] }
+        ensures least { steps.old + length (edges_in result) ≤ steps.new }
+        ensures free { edges_in result ≡ [] → steps.new ≡ steps.old }
+        ensures paid { steps.new + allowance self.new ≤ steps.old + allowance self.old }
+    {
+        let mut edges = Several::none();
+        if let Some(edge) = self.step(steps) {
+            edges.push(edge);
+        }
+        edges
     }
 }

@@ -21,6 +21,7 @@ mod positions;
 mod ranked;
 mod rounds;
 mod search;
+mod several;
 mod unseen;
 mod upward;
 
@@ -39,6 +40,7 @@ pub use neighbours::adjacent_walk;
 pub use orbit_walk::{NodeWalk, RingWalk};
 pub use positions::place_beside;
 pub use rounds::{node_walk, ring_walk};
+pub use several::{SEVERAL, Several};
 pub use upward::RegionWalk;
 
 #[cfg(test)]

@@ -7,6 +7,7 @@ ghost use Rattle.navigate.specs.KeptStops.{AreKept};
 use crate::kept_stops::KeptStops;
 use crate::positions;
 use crate::ranked::{RankedEdge, ranked_with};
+use crate::several::Several;
 use bit_words::Steps;
 use id_names::NamesView;
 use pemb_file::Served;
@@ -41,7 +42,7 @@ pub type NodeWalk<'a> = OrbitWalk<'a>;
 pub type RingWalk<'a> = OrbitWalk<'a>;
 
 impl<'a> OrbitWalk<'a> {
-    ghost use Rattle.std.specs.Prelude.{◌≡◌, ◌<◌, ◌≤◌, ◌+◌, ◌*◌, [], ◌∷◌, drop, length, IsSome, IsNone, IfSome, MatchOption};
+    ghost use Rattle.std.specs.Prelude.{◌≡◌, ◌<◌, ◌≤◌, ◌+◌, ◌*◌, ◌++◌, [], ◌∷◌, drop, length, IsSome, IsNone, IfSome, MatchOption};
     ghost use Rattle.std.specs.Iterator.{YieldsFirst};
     ghost use Rattle.code_laws.specs.Code as codes;
     ghost use Rattle.code_laws.specs.Orbits.{orbit};
@@ -52,6 +53,7 @@ impl<'a> OrbitWalk<'a> {
     ghost use Rattle.id_names.specs.Views.{ids_of, names_in};
     ghost use Rattle.navigate.specs.OrbitWalk.{contents_in, positions_left, rest, price, allowance};
     ghost use Rattle.navigate.specs.Ranked.{IsRankOf};
+    ghost use Rattle.navigate.specs.Several.{edges_in};
 
     /// The walk that begins at a position, which may be in this component, and ends before it.
     pub(crate) fn from(served: Served<'a>, kind: bool, p: usize, component: usize) -> OrbitWalk<'a>
@@ -263,5 +265,21 @@ impl<'a> OrbitWalk<'a> {
             Some(found) => Some(found.1),
             None => None,
         }
+    }
+
+    /// The next signed edges, as many as are given at once, or fewer: none at the end alone.
+    pub fn several<C: Ledger>(&mut self, steps: &mut Steps<C>) -> Several
+        ensures contents { contents_in self.new ≡ contents_in self.old }
+        ensures gives { rest self.old ≡ edges_in result ++ rest self.new }
+        ensures end { edges_in result ≡ [] → rest self.old ≡ [] }
+        ensures least { steps.old + length (edges_in result) ≤ steps.new }
+        ensures free { edges_in result ≡ [] → steps.new ≡ steps.old }
+        ensures paid { steps.new + allowance self.new ≤ steps.old + allowance self.old }
+    {
+        let mut edges = Several::none();
+        if let Some(edge) = self.step(steps) {
+            edges.push(edge);
+        }
+        edges
     }
 }
