@@ -176,10 +176,11 @@ impl<'a> FaceWalk<'a> {
         ensures free { edges_in result ≡ [] → steps.new ≡ steps.old }
         ensures paid { steps.new + allowance self.new ≤ steps.old + allowance self.old }
     {
-        let mut edges = Several::none();
-        if let Some(edge) = self.step(steps) {
-            edges.push(edge);
-        }
+        let Some(_p) = self.ring.peek() else {
+            return Several::none();
+        };
+        let edges = self.ring.several(steps);
+        settle(self.served, &mut self.ring, &mut self.hole, self.end, steps);
         edges
     }
 }

@@ -6,6 +6,7 @@ mod across;
 mod ahead;
 mod common_region;
 mod directed;
+mod edge_sides;
 mod edges;
 mod face_rings;
 mod faces;

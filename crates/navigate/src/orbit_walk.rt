@@ -4,6 +4,7 @@ ghost use Rattle.std.specs.Prelude.{◌<◌, length};
 ghost use Rattle.pemb_file.specs.Served.{contents_of_view};
 ghost use Rattle.navigate.specs.KeptStops.{AreKept};
 
+use crate::edge_sides::{EdgeSide, EdgeSides};
 use crate::kept_stops::KeptStops;
 use crate::positions;
 use crate::ranked::{RankedEdge, ranked_with};
@@ -42,7 +43,7 @@ pub type NodeWalk<'a> = OrbitWalk<'a>;
 pub type RingWalk<'a> = OrbitWalk<'a>;
 
 impl<'a> OrbitWalk<'a> {
-    ghost use Rattle.std.specs.Prelude.{◌≡◌, ◌<◌, ◌≤◌, ◌+◌, ◌*◌, ◌++◌, [], ◌∷◌, drop, length, IsSome, IsNone, IfSome, MatchOption};
+    ghost use Rattle.std.specs.Prelude.{ℤ, List, ◌≡◌, ◌<◌, ◌≤◌, ◌+◌, ◌*◌, ◌++◌, [], ◌∷◌, drop, length, IsSome, IsNone, IfSome, MatchOption};
     ghost use Rattle.std.specs.Iterator.{YieldsFirst};
     ghost use Rattle.code_laws.specs.Code as codes;
     ghost use Rattle.code_laws.specs.Orbits.{orbit};
@@ -54,6 +55,7 @@ impl<'a> OrbitWalk<'a> {
     ghost use Rattle.navigate.specs.OrbitWalk.{contents_in, positions_left, rest, price, allowance};
     ghost use Rattle.navigate.specs.Ranked.{IsRankOf};
     ghost use Rattle.navigate.specs.Several.{edges_in};
+    ghost use Rattle.navigate.specs.EdgeSides.{IsSideOf, AreSidesOf, sides_in};
 
     /// The walk that begins at a position, which may be in this component, and ends before it.
     pub(crate) fn from(served: Served<'a>, kind: bool, p: usize, component: usize) -> OrbitWalk<'a>
@@ -267,6 +269,47 @@ impl<'a> OrbitWalk<'a> {
         }
     }
 
+    /// The edge at the next position, whose id isn't read yet, or None at the end.
+    fn side<C: Ledger>(&mut self, steps: &mut Steps<C>) -> Option<EdgeSide>
+        ensures contents { contents_in self.new ≡ contents_in self.old }
+        ensures next { MatchOption result (rest self.old ≡ [])
+            (λ side. (d : ℤ) × (rest self.old ≡ d ∷ rest self.new) × IsSideOf (contents_in self.old) side d) }
+        ensures end { IsNone result → rest self.new ≡ [] }
+        ensures cost { MatchOption result (steps.new ≡ steps.old) (λ _. (steps.old + 1 ≤ steps.new)
+            × (steps.new ≤ steps.old + (13 * line_digits (contents_in self.old) + 116))) }
+    {
+        if self.left == 0 {
+            return None;
+        }
+        let stop = self.look(steps);
+        self.go_on(stop.next);
+        Some(EdgeSide {
+            number: stop.edge,
+            is_first: stop.is_first,
+        })
+    }
+
+    /// The edges at the next positions, as many as are given at once, or fewer: none at the end alone.
+    fn sides<C: Ledger>(&mut self, steps: &mut Steps<C>) -> EdgeSides
+        ensures contents { contents_in self.new ≡ contents_in self.old }
+        ensures gives { (edges : List ℤ) × (rest self.old ≡ edges ++ rest self.new)
+            × AreSidesOf (contents_in self.old) (sides_in result) edges }
+        ensures end { sides_in result ≡ [] → rest self.old ≡ [] }
+        ensures least { steps.old + length (sides_in result) ≤ steps.new }
+        ensures free { sides_in result ≡ [] → steps.new ≡ steps.old }
+        ensures cost { steps.new ≤ steps.old
+            + (13 * line_digits (contents_in self.old) + 116) * length (sides_in result) }
+    {
+        let mut sides = EdgeSides::none();
+        while !sides.is_full() {
+            match self.side(steps) {
+                Some(side) => sides.push(side),
+                None => return sides,
+            }
+        }
+        sides
+    }
+
     /// The next signed edges, as many as are given at once, or fewer: none at the end alone.
     pub fn several<C: Ledger>(&mut self, steps: &mut Steps<C>) -> Several
         ensures contents { contents_in self.new ≡ contents_in self.old }
@@ -276,10 +319,7 @@ impl<'a> OrbitWalk<'a> {
         ensures free { edges_in result ≡ [] → steps.new ≡ steps.old }
         ensures paid { steps.new + allowance self.new ≤ steps.old + allowance self.old }
     {
-        let mut edges = Several::none();
-        if let Some(edge) = self.step(steps) {
-            edges.push(edge);
-        }
-        edges
+        let sides = self.sides(steps);
+        positions::edges_on(self.served, sides.as_slice(), steps)
     }
 }
