@@ -1,18 +1,19 @@
 //! Items in a list: those that a walk gives, and numbers.
 
-ghost use Rattle.std.specs.Prelude.{◌≡◌, ◌≤◌, ◌+◌, ◌∷◌, ℕ, List, [], map, flat_map, length, OnOk, IsSome, IsNone, MatchOption, option_map};
+ghost use Rattle.std.specs.Prelude.{◌≡◌, ◌≤◌, ◌+◌, ◌++◌, ℕ, List, [], map, flat_map, length, OnOk, MatchOption, option_map};
 ghost use Rattle.topo_base.specs.Script as script;
 ghost use Rattle.topo_base.specs.Script.{item_text};
 ghost use Rattle.plane_model.specs.Answers.{after_colon};
 ghost use Rattle.topo_serve.specs.Gathering.{out_at, Writes};
-ghost use Rattle.topo_serve.specs.Items.{item_of};
+ghost use Rattle.topo_serve.specs.Items.{items_of};
 
 use crate::gathered::{Gathered, gather};
 use crate::item::{Item, gather_item};
+use crate::next_items::NextItems;
 use bit_words::Steps;
 use ports::{Failed, Sink};
 use std::sync::ledger::Ledger;
-use topo_base::IdNumber;
+use topo_base::{IdNumber, Signed};
 
 /// The items of an answer, one after the other.
 pub(crate) trait Items {
@@ -22,13 +23,25 @@ pub(crate) trait Items {
     /// How many words reading them takes at most.
     ghost allowance: { Self → ℕ };
 
-    /// The next item, or None at the end.
-    fn next_item<C: Ledger>(&mut self, steps: &mut Steps<C>) -> Option<Item>
-        ensures next { MatchOption result (items self.old ≡ []) (λ item. items self.old
-            ≡ item_of item ∷ items self.new) }
-        ensures least { IsSome result → steps.old + 1 ≤ steps.new }
-        ensures free { IsNone result → steps.new ≡ steps.old }
+    /// The next items, as many as are given at once: none at the end alone.
+    fn next_items<C: Ledger>(&mut self, steps: &mut Steps<C>) -> NextItems
+        ensures next { items self.old ≡ items_of result ++ items self.new }
+        ensures end { items_of result ≡ [] → items self.old ≡ [] }
+        ensures least { steps.old + length (items_of result) ≤ steps.new }
+        ensures free { items_of result ≡ [] → steps.new ≡ steps.old }
         ensures paid { steps.new + allowance self.new ≤ steps.old + allowance self.old };
+}
+
+/// Gathers the texts of the next items.
+fn gather_items<K: Sink>(out: &mut K, text: &mut Gathered, items: &NextItems) -> Result<(), Failed>
+    ensures { Writes result (out_at (K.held out.old) (K.faults out.old) text.old.items)
+        (out_at (K.held out.new) (K.faults out.new) text.new.items) (flat_map item_text (items_of items.now)) }
+{
+    match items {
+        NextItems::Edges(edges) => list_edges(out, text, edges.as_slice()),
+        NextItems::One(item) => gather_item(out, text, *item),
+        NextItems::End => Ok(()),
+    }
 }
 
 /// The items of a walk, to its end.
@@ -44,10 +57,13 @@ fn list<W: Items, K: Sink, C: Ledger>(
     ensures grows { steps.old ≤ steps.new }
     ensures paid { steps.new ≤ steps.old + W.allowance walk.old }
 {
-    while let Some(item) = walk.next_item(steps) {
-        gather_item(out, text, item)?;
+    loop {
+        let items = walk.next_items(steps);
+        if items.is_empty() {
+            return Ok(());
+        }
+        gather_items(out, text, &items)?;
     }
-    Ok(())
 }
 
 /// The items of a walk, or that what is asked for is unknown where there is none.
@@ -82,6 +98,18 @@ pub(crate) fn list_numbers<K: Sink>(
 {
     for number in numbers {
         gather_item(out, text, Item::Number(*number))?;
+    }
+    Ok(())
+}
+
+/// Signed edges as items.
+fn list_edges<K: Sink>(out: &mut K, text: &mut Gathered, edges: &[Signed]) -> Result<(), Failed>
+    ensures { Writes result (out_at (K.held out.old) (K.faults out.old) text.old.items)
+        (out_at (K.held out.new) (K.faults out.new) text.new.items)
+        (flat_map item_text (map script.Signed_edge edges.now)) }
+{
+    for edge in edges {
+        gather_item(out, text, Item::Edge(*edge))?;
     }
     Ok(())
 }

@@ -8,6 +8,7 @@ mod gathered;
 mod item;
 mod items;
 mod line;
+mod next_items;
 mod piece;
 mod serving;
 mod walks;

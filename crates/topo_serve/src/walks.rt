@@ -7,6 +7,7 @@ ghost use Rattle.topo_serve.specs.Items.{item_of};
 
 use crate::item::Item;
 use crate::items::Items;
+use crate::next_items::NextItems;
 use bit_words::Steps;
 use navigate::{FaceWalk, Island, IslandWalk, NodeWalk, RegionWalk};
 use std::sync::ledger::Ledger;
@@ -18,11 +19,8 @@ impl Items for NodeWalk<'_> {
 
     ghost allowance = { λ w. orbits.allowance w };
 
-    fn next_item<C: Ledger>(&mut self, steps: &mut Steps<C>) -> Option<Item> {
-        match self.step(steps) {
-            Some(edge) => Some(Item::Edge(edge)),
-            None => None,
-        }
+    fn next_items<C: Ledger>(&mut self, steps: &mut Steps<C>) -> NextItems {
+        NextItems::Edges(self.several(steps))
     }
 }
 
@@ -33,11 +31,8 @@ impl Items for FaceWalk<'_> {
 
     ghost allowance = { λ w. rings.allowance w };
 
-    fn next_item<C: Ledger>(&mut self, steps: &mut Steps<C>) -> Option<Item> {
-        match self.step(steps) {
-            Some(edge) => Some(Item::Edge(edge)),
-            None => None,
-        }
+    fn next_items<C: Ledger>(&mut self, steps: &mut Steps<C>) -> NextItems {
+        NextItems::Edges(self.several(steps))
     }
 }
 
@@ -48,10 +43,10 @@ impl Items for IslandWalk<'_> {
 
     ghost allowance = { λ w. islands.allowance w };
 
-    fn next_item<C: Ledger>(&mut self, steps: &mut Steps<C>) -> Option<Item> {
+    fn next_items<C: Ledger>(&mut self, steps: &mut Steps<C>) -> NextItems {
         match self.step(steps) {
-            Some(island) => Some(island_item(island)),
-            None => None,
+            Some(island) => NextItems::One(island_item(island)),
+            None => NextItems::End,
         }
     }
 }
@@ -73,10 +68,10 @@ impl Items for RegionWalk<'_> {
 
     ghost allowance = { λ w. regions.allowance w };
 
-    fn next_item<C: Ledger>(&mut self, steps: &mut Steps<C>) -> Option<Item> {
+    fn next_items<C: Ledger>(&mut self, steps: &mut Steps<C>) -> NextItems {
         match self.step(steps) {
-            Some(region) => Some(Item::Number(region.0)),
-            None => None,
+            Some(region) => NextItems::One(Item::Number(region.0)),
+            None => NextItems::End,
         }
     }
 }

@@ -1,6 +1,0 @@
-use Rattle.std.proofs.Common.{ap, map}
-use Rattle.topo_base.specs.Script.{Item}
-use Rattle.topo_serve.proofs.walks.FaceWalkItems.next_item.Goals as goal
-
-pub returns-in-Some-clause-next : goal.returns-in-Some-clause-next
-returns-in-Some-clause-next g c = ap (map Item.Signed_edge) c.in-Some.ensures.gives

@@ -1,0 +1,13 @@
+use Rattle.std.proofs.Common.{ap, map}
+use Rattle.topo_base.specs.Script.{Item}
+use Rattle.topo_serve.proofs.Listing.{split_items, none_as_items}
+use Rattle.topo_serve.proofs.walks.FaceWalkItems.next_items.Goals as goal
+
+pub returns-clause-next : goal.returns-clause-next
+returns-clause-next g c = split_items Item.Signed_edge _ _ _ c.several.ensures.gives
+
+pub returns-clause-end : goal.returns-clause-end
+returns-clause-end g c none = ap (map Item.Signed_edge) (c.several.ensures.end (none_as_items Item.Signed_edge _ none))
+
+pub returns-clause-free : goal.returns-clause-free
+returns-clause-free g c none = c.several.ensures.free (none_as_items Item.Signed_edge _ none)
