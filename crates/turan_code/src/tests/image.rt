@@ -4,6 +4,7 @@ ghost use Rattle.std.specs.Prelude.{◌≡◌, ◌≤◌, ◌/◌, filter, lengt
 ghost use Rattle.bit_words.specs.Words.{words_in};
 ghost use Rattle.bit_words.specs.Bits.{same, bits_in};
 ghost use Rattle.bit_words.specs.BitView.{bits_of as view_bits};
+ghost use Rattle.bit_words.specs.PackedView.{width_of};
 ghost use Rattle.rank_select.specs.RankView.{counted};
 ghost use Rattle.parens.specs.ParenView.{parens_of};
 ghost use Rattle.code_laws.specs.Tour.{code_of};
@@ -190,6 +191,7 @@ impl Image {
     pub(super) fn sequences<'a>(&'a self) -> Option<Sequences<'a>>
         ensures few { IfSome result (λ found. AreFew (code_of_sequences found)) }
         ensures code { IfSome result (λ found. code_of_sequences found ≡ self.now) }
+        ensures width { IfSome result (λ found. width_of found.starts ≡ 32) }
     {
         let a = self.a.view()?;
         let tree = self.tree.view()?;
