@@ -1,5 +1,5 @@
 -- Several searches, of which the first few have gone one step on.
-use Rattle.std.proofs.Common.{◌≡◌, ℕ, zero, suc, ◌+◌, ◌<◌, ◌≤◌, false, List, [], ◌∷◌, map, length, get_or, set, refl, ap, arith, Option, None}
+use Rattle.std.proofs.Common.{◌≡◌, ℕ, zero, suc, ◌+◌, ◌<◌, ◌≤◌, false, List, [], ◌∷◌, map, length, get_or, set, refl, ap, arith, Option}
 use Rattle.id_names.specs.Searches.{jump_left, jumps_left}
 use Rattle.id_names.specs.declared.searches.Search.{Search}
 use Rattle.id_names.specs.declared.searches.State.TheVariants.{UnderWay}
@@ -45,18 +45,10 @@ one_goes_on zero (x ∷ xs) y h = omega arith
 one_goes_on (suc k) (x ∷ xs) y h = let e = one_goes_on k xs y (omega arith) in omega (arith, e)
 
 -- a list of four, item by item
-pub four_asked : (f : Option ℕ → Option ℕ) (xs : List (Option ℕ)) → length xs ≡ 4 → (f (get_or xs 0 None) ∷ f (get_or xs 1 None) ∷ f (get_or xs 2 None) ∷ f (get_or xs 3 None) ∷ []) ≡ map f xs
-four_asked f (a ∷ b ∷ d ∷ e ∷ []) n = refl
-four_asked f [] n = absurd (omega arith)
-four_asked f (a ∷ []) n = absurd (omega arith)
-four_asked f (a ∷ b ∷ []) n = absurd (omega arith)
-four_asked f (a ∷ b ∷ d ∷ []) n = absurd (omega arith)
-four_asked f (a ∷ b ∷ d ∷ e ∷ x ∷ xs) n = absurd (omega arith)
-
-pub four_found : (f : Search → Option ℕ) (xs : List Search) → length xs ≡ 4 → (f (get_or xs 0 no_search) ∷ f (get_or xs 1 no_search) ∷ f (get_or xs 2 no_search) ∷ f (get_or xs 3 no_search) ∷ []) ≡ map f xs
-four_found f (a ∷ b ∷ d ∷ e ∷ []) n = refl
-four_found f [] n = absurd (omega arith)
-four_found f (a ∷ []) n = absurd (omega arith)
-four_found f (a ∷ b ∷ []) n = absurd (omega arith)
-four_found f (a ∷ b ∷ d ∷ []) n = absurd (omega arith)
-four_found f (a ∷ b ∷ d ∷ e ∷ x ∷ xs) n = absurd (omega arith)
+pub each_of_four : {A : Type 0} (out : A) (f : A → Option ℕ) (xs : List A) → length xs ≡ 4 → (f (get_or xs 0 out) ∷ f (get_or xs 1 out) ∷ f (get_or xs 2 out) ∷ f (get_or xs 3 out) ∷ []) ≡ map f xs
+each_of_four out f (a ∷ b ∷ d ∷ e ∷ []) n = refl
+each_of_four out f [] n = absurd (omega arith)
+each_of_four out f (a ∷ []) n = absurd (omega arith)
+each_of_four out f (a ∷ b ∷ []) n = absurd (omega arith)
+each_of_four out f (a ∷ b ∷ d ∷ []) n = absurd (omega arith)
+each_of_four out f (a ∷ b ∷ d ∷ e ∷ x ∷ xs) n = absurd (omega arith)
