@@ -1,15 +1,15 @@
 -- A component that is gone through from waiting darts, and gets its number.
-use Rattle.std.proofs.Common.{◌≡◌, ℕ, zero, suc, ◌+◌, ◌*◌, ◌<◌, ◌≤◌, ◌⊎◌, inl, inr, ℤ, Bool, true, false, ◌&&◌, ◌||◌, ◌==◌, List, [], ◌∷◌, ◌++◌, length, get_or, refl, sym, ap, ◌∙◌, subst, arith, eq-eqb, Option, Some, None}
+use Rattle.std.proofs.Common.{◌≡◌, ℕ, zero, suc, ◌+◌, ◌*◌, ◌<◌, ◌≤◌, ◌⊎◌, inl, inr, ℤ, Bool, true, false, ◌&&◌, ◌||◌, ◌==◌, List, [], ◌∷◌, ◌++◌, length, drop, get_or, refl, sym, ap, ◌∙◌, subst, arith, eq-eqb, Option, Some, None}
 use Rattle.std.proofs.Math.ListN.{set, length-set}
 use Rattle.std.proofs.lemmas.Bool.{and_from, and_parts, cases_eq, eqb-true, or_cases, or_left, or_right, both_ways}
-use Rattle.std.proofs.lemmas.List.{get_or-set_same, get_or-set_other, length-append}
+use Rattle.std.proofs.lemmas.List.{get_or-set_same, get_or-set_other, length-append, drop_more, drop-append-le}
 use Rattle.topo_base.specs.SignedEdge.{reverse, same_edge}
 use Rattle.orbits.proofs.Lists.{among}
 use Rattle.plane_model.specs.declared.rows.EdgeRow.{EdgeRow}
 use Rattle.plane_model.specs.Sets.{has, has_edge}
 use Rattle.plane_model.specs.PlaneMap.{turn}
 use Rattle.plane_model.specs.Component.{component}
-use Rattle.plane_model.proofs.SetLaws.{same_is, same_self, IsClosed, component-least, same_edges}
+use Rattle.plane_model.proofs.SetLaws.{same_is, same_self, component-least, same_edges}
 use Rattle.plane_model.proofs.ComponentParts.{component_own, component-reverse, component-turn}
 use Rattle.plane_model.proofs.RotationOrbits.{turn_permutes}
 use Rattle.rotation_check.specs.Darts.{RotationRows, IsRotation, map_of_rotation, reverse_dart, signed_edge}
@@ -18,10 +18,6 @@ use Rattle.rotation_check.proofs.Turning.{reverse-within, signed-reverse_dart}
 use Rattle.euler_check.specs.Marks.{number_at, DartsGetNumber, IsReached}
 use Rattle.euler_check.proofs.Numbered.{is_option, not_both}
 use Rattle.euler_check.proofs.Walking.{own_rows, there, one_dart}
-
-pub empty : (xs : List ℕ) → length xs ≡ 0 → xs ≡ []
-empty [] h = refl
-empty (x ∷ xs) h = absurd (omega arith)
 
 -- how many have no number
 pub unnumbered : List (Option ℕ) → ℕ
@@ -113,6 +109,19 @@ reach edges dart number old new before after h r = elim (is_option (number_at ol
       }
 ]
 
+-- a dart that stands behind all stands behind those from some place on
+behind : (dart number next : ℕ) (old new : List (Option ℕ)) (before after : List ℕ) → next ≤ length before → IsReached dart number old new before after → IsReached dart number old new (drop next before) (drop next after)
+behind dart number next old new before after h r = record {
+  known = λ x some. let is = r.known x some in (is.0, ap (drop next) is.1);
+  reached = λ none. let is = r.reached none in (is.0, ap (drop next) is.1 ∙ drop-append-le next before (dart ∷ []) h);
+}
+
+no_shorter : (dart number : ℕ) (old new : List (Option ℕ)) (before after : List ℕ) → IsReached dart number old new before after → length before ≤ length after
+no_shorter dart number old new before after r = elim (is_option (number_at old dart)) [
+  | inl none ↦ let l : length after ≡ length before + 1 = ap length (r.reached none).1 ∙ length-append before (dart ∷ []) in omega arith
+  | inr some ↦ let l : length after ≡ length before = ap length (r.known some.0 some.1).1 in omega arith
+]
+
 is_number : ℕ → Option ℕ → Bool
 is_number x None = false
 is_number x (Some y) = x == y
@@ -160,10 +169,17 @@ pub record IsFlooding (r : RotationRows) (first number : ℕ) (old new : List (O
   pub closed : (d : ℕ) → d < 2 * length r.edges → part_has r first d ≡ true → number_at new d ≡ Some number
       → (has waiting d ≡ true) ⊎ ((number_at new (reverse_dart d) ≡ Some number) × ((e : ℕ) → e < 2 * length r.edges → signed_edge r.edges e ≡ turn (map_of_rotation r) (signed_edge r.edges d) → number_at new e ≡ Some number))
 
+-- a dart that is the first that waits
+abbrev pub IsNext : List ℕ → ℕ → ℕ → Type 0
+IsNext waiting next dart = (next < length waiting) × ((d : ℕ) → dart ≡ get_or waiting next d)
+
+next_first : (waiting : List ℕ) (next dart : ℕ) → IsNext waiting next dart → drop next waiting ≡ dart ∷ drop (next + 1) waiting
+next_first waiting next dart is = drop_more waiting next 0 is.0 ∙ ap (λ d. d ∷ drop (next + 1) waiting) (sym (is.1 0))
+
 -- a dart that waited is one of the component
-pub taken_within : (r : RotationRows) (first number : ℕ) (old new : List (Option ℕ)) (waiting rest : List ℕ) (dart : ℕ) → waiting ≡ rest ++ (dart ∷ []) → IsFlooding r first number old new waiting → (dart < 2 * length r.edges) × (part_has r first dart ≡ true)
-taken_within r first number old new waiting rest dart popped m =
-    m.within dart (subst (λ xs. has xs dart ≡ true) (sym popped) (in_append_right rest (dart ∷ []) dart (or_left _ _ (eq-eqb dart dart refl))))
+pub taken_within : (r : RotationRows) (first number : ℕ) (old new : List (Option ℕ)) (waiting : List ℕ) (next dart : ℕ) → IsNext waiting next dart → IsFlooding r first number old new (drop next waiting) → (dart < 2 * length r.edges) × (part_has r first dart ≡ true)
+taken_within r first number old new waiting next dart taken m =
+    m.within dart (subst (λ xs. has xs dart ≡ true) (sym (next_first waiting next dart taken)) (or_left _ _ (eq-eqb dart dart refl)))
 
 module _ (r : RotationRows) (is : IsRotation r) (first number : ℕ) (old : List (Option ℕ)) (size : length old ≡ 2 * length r.edges) (h : first < 2 * length r.edges)
     (unmarked : (d : ℕ) → d < 2 * length r.edges → part_has r first d ≡ true → number_at old d ≡ None) where
@@ -201,20 +217,32 @@ module _ (r : RotationRows) (is : IsRotation r) (first number : ℕ) (old : List
         ];
       }
 
-  module _ (dart turned : ℕ) (rest once_waiting twice_waiting all_waiting : List ℕ) (new once twice : List (Option ℕ)) (popped : all_waiting ≡ rest ++ (dart ∷ [])) (before : IsFlooding r first number old new all_waiting)
+  module _ (dart turned next : ℕ) (waiting once_waiting twice_waiting : List ℕ) (new once twice : List (Option ℕ)) (taken : IsNext waiting next dart) (before : IsFlooding r first number old new (drop next waiting))
       (turned_within : turned < 2 * length r.edges) (step : signed_edge r.edges turned ≡ turn (map_of_rotation r) (signed_edge r.edges dart))
-      (back : IsReached (reverse_dart dart) number new once rest once_waiting) (round : IsReached turned number once twice once_waiting twice_waiting) where
+      (back : IsReached (reverse_dart dart) number new once waiting once_waiting) (round : IsReached turned number once twice once_waiting twice_waiting) where
+    popped : drop next waiting ≡ dart ∷ drop (next + 1) waiting
+    popped = next_first waiting next dart taken
+
     dart_within : (dart < 2 * length r.edges) × (part_has r first dart ≡ true)
-    dart_within = taken_within r first number old new all_waiting rest dart popped before
+    dart_within = taken_within r first number old new waiting next dart taken before
 
     back_within : reverse_dart dart < 2 * length r.edges
     back_within = reverse-within r.edges dart dart_within.0
 
-    first_step : Reach r.edges (reverse_dart dart) number new once rest once_waiting
-    first_step = let a = before.size in let b = back_within in reach r.edges (reverse_dart dart) number new once rest once_waiting (omega arith) back
+    first_step : Reach r.edges (reverse_dart dart) number new once (drop (next + 1) waiting) (drop (next + 1) once_waiting)
+    first_step =
+        let a = before.size in
+        let b = back_within in
+        let w = taken.0 in
+        reach r.edges (reverse_dart dart) number new once (drop (next + 1) waiting) (drop (next + 1) once_waiting) (omega arith) (behind (reverse_dart dart) number (next + 1) new once waiting once_waiting (omega arith) back)
 
-    second_step : Reach r.edges turned number once twice once_waiting twice_waiting
-    second_step = let a = before.size in let b = first_step.size in reach r.edges turned number once twice once_waiting twice_waiting (omega arith) round
+    second_step : Reach r.edges turned number once twice (drop (next + 1) once_waiting) (drop (next + 1) twice_waiting)
+    second_step =
+        let a = before.size in
+        let b = first_step.size in
+        let w = taken.0 in
+        let l = no_shorter (reverse_dart dart) number new once waiting once_waiting back in
+        reach r.edges turned number once twice (drop (next + 1) once_waiting) (drop (next + 1) twice_waiting) (omega arith) (behind turned number (next + 1) once twice once_waiting twice_waiting (omega arith) round)
 
     back_in : part_has r first (reverse_dart dart) ≡ true
     back_in = reversed_in dart dart_within.0 dart_within.1
@@ -234,10 +262,10 @@ module _ (r : RotationRows) (is : IsRotation r) (first number : ℕ) (old : List
     turned_now : number_at twice turned ≡ Some number
     turned_now = second_step.now (inside_once turned turned_within turned_is_in)
 
-    in_rest : (d : ℕ) → has all_waiting d ≡ true → (has rest d ≡ true) ⊎ (d ≡ dart)
-    in_rest d on = elim (has_append rest (dart ∷ []) d (subst (λ xs. has xs d ≡ true) popped on)) [ inl a ↦ inl a | inr b ↦ inr (only_one d dart b) ]
+    in_rest : (d : ℕ) → has (drop next waiting) d ≡ true → (has (drop (next + 1) waiting) d ≡ true) ⊎ (d ≡ dart)
+    in_rest d on = elim (or_cases (d == dart) _ (subst (λ xs. has xs d ≡ true) popped on)) [ inl here ↦ inr (eqb-true d dart here) | inr left ↦ inl left ]
 
-    pub flooding_next : IsFlooding r first number old twice twice_waiting
+    pub flooding_next : IsFlooding r first number old twice (drop (next + 1) twice_waiting)
     flooding_next = record {
       size = second_step.size ∙ first_step.size ∙ before.size;
       begun = second_step.stays first number (first_step.stays first number before.begun);
@@ -250,7 +278,7 @@ module _ (r : RotationRows) (is : IsRotation r) (first number : ℕ) (old : List
       ];
       within = λ d on. elim (second_step.opened d on) [
         | inl earlier ↦ elim (first_step.opened d earlier) [
-          | inl left ↦ before.within d (subst (λ xs. has xs d ≡ true) (sym popped) (in_append_left rest (dart ∷ []) d left))
+          | inl left ↦ before.within d (subst (λ xs. has xs d ≡ true) (sym popped) (or_right (d == dart) _ left))
           | inr e ↦ (subst (λ k. k < 2 * length r.edges) (sym e) back_within, subst (λ k. part_has r first k ≡ true) (sym e) back_in)
         ]
         | inr e ↦ (subst (λ k. k < 2 * length r.edges) (sym e) turned_within, subst (λ k. part_has r first k ≡ true) (sym e) turned_is_in)
@@ -276,12 +304,12 @@ module _ (r : RotationRows) (is : IsRotation r) (first number : ℕ) (old : List
       ];
     }
 
-    pub less_work : work twice twice_waiting < work new all_waiting
+    pub less_work : work twice (drop (next + 1) twice_waiting) < work new (drop next waiting)
     unfolding work
     less_work =
-        let a : work once once_waiting ≤ work new rest = first_step.less in
-        let b : work twice twice_waiting ≤ work once once_waiting = second_step.less in
-        let l : length all_waiting ≡ length rest + 1 = ap length popped ∙ length-append rest (dart ∷ []) in
+        let a : work once (drop (next + 1) once_waiting) ≤ work new (drop (next + 1) waiting) = first_step.less in
+        let b : work twice (drop (next + 1) twice_waiting) ≤ work once (drop (next + 1) once_waiting) = second_step.less in
+        let l : length (drop next waiting) ≡ suc (length (drop (next + 1) waiting)) = ap length popped in
         omega arith
 
   -- where none wait, all have the number

@@ -46,10 +46,12 @@ fn mark_component(
     ensures { OnOk result (DartsGetNumber rotation.now.edges (component (map_of_rotation rotation.now)
         (signed_edge rotation.now.edges first)) number numbers.old numbers.new) }
 {
-    // darts of the component whose reverse and turn may have no number
+    // darts of the component; the reverse and turn of those from `next` on may have no number
     let mut waiting = Vec::new(alloc);
+    let mut next = 0;
     reach(first, number, numbers, &mut waiting)?;
-    while let Some(dart) = waiting.pop() {
+    while let Some(&dart) = waiting.get(next) {
+        next += 1;
         reach(reversed(dart), number, numbers, &mut waiting)?;
         reach(rotation.turn(dart), number, numbers, &mut waiting)?;
     }
