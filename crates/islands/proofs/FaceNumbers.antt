@@ -1,21 +1,17 @@
 -- Faces by their places among rising ids.
-use Rattle.std.proofs.Common.{◌≡◌, ℕ, zero, suc, ◌+◌, ◌<◌, ◌≤◌, inl, inr, Bool, true, not, ◌==◌, List, [], ◌∷◌, ◌++◌, map, filter, length, take, get_or, refl, ap, ◌∙◌, arith, Result}
+use Rattle.std.proofs.Common.{◌≡◌, ℕ, zero, suc, ◌+◌, ◌<◌, inl, inr, Bool, true, not, ◌==◌, List, [], ◌∷◌, ◌++◌, map, filter, length, take, get_or, refl, ap, ◌∙◌, arith}
 use Rattle.std.specs.Prelude.{nat_lt, nat_le, if◌then◌else◌}
 use Rattle.std.specs.List.{list_all}
-use Rattle.std.specs.List.Sorted.{IsBinarySearchResult}
-use Rattle.std.specs.Ordering.{nat_cmp}
-use Rattle.std.specs.Prelude.{MatchResult}
 use Rattle.std.proofs.lemmas.Bool.{and_parts, and_from, cases_Bool, cases_lt}
 use Rattle.std.proofs.lemmas.Bool.Decides.{nat_tests}
-use Rattle.std.proofs.lemmas.List.{take_more, map-append, get_or_default}
-use Rattle.std.proofs.lemmas.List.Sorted.{searched}
+use Rattle.std.proofs.lemmas.List.{take_more, map-append}
 use Rattle.orbits.proofs.Lists.{from_filter, apart_kept}
 use Rattle.orbits.proofs.Numbers.{same_numbers}
 use Rattle.plane_model.specs.declared.rows.FaceRow.{FaceRow}
-use Rattle.plane_model.specs.Sets.{has, is_distinct, put, rising}
+use Rattle.plane_model.specs.Sets.{is_distinct, put, rising}
 use Rattle.plane_model.specs.Orders.{is_strictly_rising}
-use Rattle.plane_model.proofs.Sorting.{among, all_from, rising-all, rising_strictly, sorted_from_rises, strictly_is_rising}
-use Rattle.islands.proofs.Collected.{Contains_from_has, has_index}
+use Rattle.plane_model.proofs.Sorting.{among, all_from, rising-all, rising_strictly}
+use Rattle.islands.proofs.Collected.{has_index}
 
 -- the ids other than 0
 abbrev pub other_ids : List FaceRow → List ℕ
@@ -32,17 +28,6 @@ put_zero (x ∷ xs) = rw (zero_least x) refl
 pub rising_zero : (xs : List ℕ) → rising (0 ∷ xs) ≡ 0 ∷ rising xs
 unfolding rising
 rising_zero xs = put_zero (rising xs)
-
--- what a search among rising ids finds
-pub found_at : (xs : List ℕ) (x : ℕ) (r : Result ℕ ℕ) → is_strictly_rising xs ≡ true → IsBinarySearchResult (λ y. nat_cmp y x) xs r → MatchResult r (λ i. (i < length xs) × (get_or xs i 0 ≡ x)) (λ i. (i ≤ length xs) × ((k : ℕ) → k < i → get_or xs k 0 < x) × ((k : ℕ) → i ≤ k → k < length xs → x < get_or xs k 0))
-found_at xs x r rises found = searched xs x r found (λ i j le lt. sorted_from_rises xs (strictly_is_rising xs rises) i j 0 le lt)
-
-pub not_missing : (xs : List ℕ) (x i : ℕ) → has xs x ≡ true → ((i ≤ length xs) × ((k : ℕ) → k < i → get_or xs k 0 < x) × ((k : ℕ) → i ≤ k → k < length xs → x < get_or xs k 0)) → ⊥
-not_missing xs x i on gap =
-    let at = Contains_from_has xs x on in
-    let lt : at.0 < length xs = at.1 in
-    let is : get_or xs at.0 0 ≡ x = get_or_default xs at.0 0 x lt ∙ at.2 in
-    elim (cases_lt at.0 i) [ inl less ↦ (let a = gap.1 at.0 less in omega arith) | inr ge ↦ (let a = gap.2 at.0 ge lt in omega arith) ]
 
 pub ids_rise : (faces : List FaceRow) → is_distinct (map (λ r. r.id) faces) ≡ true → is_strictly_rising (0 ∷ rising (other_ids faces)) ≡ true
 ids_rise faces h =

@@ -1,6 +1,7 @@
 //! The numbers of a map's rings, faces and components.
 
-ghost use Rattle.std.specs.Prelude.{◌≡◌, ◌≤◌, ℕ, ◌*◌, ◌<◌, ◌^◌, not, ◌==◌, IfOk, IsTrue, [], ◌∷◌, length, filter, map, slice_index};
+ghost use Rattle.std.specs.Prelude.{◌≡◌, ◌≤◌, ℕ, ◌*◌, ◌<◌, ◌^◌, not, ◌==◌, IfOk, IsTrue, [], ◌∷◌, length, filter, is_some, map, slice_index, Some};
+ghost use Rattle.id_index.specs.Index.{IsIndex, row_in};
 ghost use Rattle.plane_model.specs.Sets.{has, rising};
 ghost use Rattle.plane_model.specs.Orders.{is_strictly_rising};
 ghost use Rattle.plane_model.specs.PlaneMap.{ring, side};
@@ -13,6 +14,7 @@ ghost use Rattle.islands.specs.Placed.{AreFacesOf};
 
 use crate::least::{LeastDarts, least_darts};
 use euler_check::Parts;
+use id_index::IdIndex;
 use plane_model::FaceRow;
 use plane_model::ids::rising_ids;
 use rotation_check::Rotation;
@@ -44,20 +46,28 @@ fn face_ids(alloc: Global, faces: &[FaceRow]) -> Result<Vec<IdNumber>, AllocErro
     Ok(rising_ids(ids))
 }
 
-/// How many faces can be numbered.
+/// How many numbers there are for faces.
 const FACE_NUMBERS: usize = 4_294_967_296;
 
-/// The number of a face: its place among the ids.
-fn face_number(ids: &[IdNumber], face: IdNumber) -> u32
-    requires few { length ids.now ≤ 2 ^ 32 }
-    requires rising { IsTrue (is_strictly_rising ids.now) }
-    requires there { IsTrue (has ids.now face) }
-    ensures within { result < length ids.now }
-    ensures is { slice_index ids.now result ≡ face }
+/// The index of the ids of faces. As many as there are numbers are one more than it takes, and want of memory.
+fn face_index(alloc: Global, ids: &[IdNumber]) -> Result<IdIndex, AllocError>
+    requires { length ids.now ≤ 2 ^ 32 }
+    ensures { IfOk result (IsIndex ids.now) }
 {
-    match ids.binary_search(&face) {
-        Ok(place) => place as u32,
-        Err(_) => unreachable!(),
+    if ids.len() == FACE_NUMBERS {
+        return Err(AllocError);
+    }
+    IdIndex::new(alloc, ids)
+}
+
+/// The number of a face: its row among the ids.
+fn face_number(ids: &IdIndex, face: IdNumber) -> u32
+    requires { IsTrue (is_some (row_in ids.now face)) }
+    ensures { row_in ids.now face ≡ Some result }
+{
+    match ids.row_of(face) {
+        Some(row) => row,
+        None => unreachable!(),
     }
 }
 
@@ -81,9 +91,10 @@ fn face_numbers(
         → slice_index ids.now (slice_index numbers.items k)
         ≡ side (map_of_rotation rotation.now) (signed_edge rotation.now.edges (slice_index darts.now k))) }
 {
+    let index = face_index(alloc, ids)?;
     let mut numbers = Vec::new(alloc);
     for dart in darts {
-        numbers.push(face_number(ids, rotation.side(*dart)))?;
+        numbers.push(face_number(&index, rotation.side(*dart)))?;
     }
     Ok(numbers)
 }
@@ -100,8 +111,8 @@ fn component_numbers(alloc: Global, parts: &Parts, darts: &[u32]) -> Result<Vec<
     Ok(numbers)
 }
 
-/// Numbers the rings, faces and components of a rotation with faces. More faces than there are numbers for are want of
-/// memory.
+/// Numbers the rings, faces and components of a rotation with faces. As many faces as there are numbers, or more, are
+/// want of memory.
 pub fn number_map(
     alloc: Global,
     rotation: &Rotation,
