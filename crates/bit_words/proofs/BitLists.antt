@@ -91,9 +91,4 @@ pub get_or-word_bits : (word i : ℕ) (d : Bool) → i < 64 → get_or (word_bit
 unfolding word_bits
 get_or-word_bits word i d h = get_or-tabulate 64 (is_set word) i d h
 
--- the test that reads a bit of a word
-pub word_bit : (word i : ℕ) → i < 64 → eqb (bit_and (word / 2 ^ i) 1) 1 ≡ get_or (word_bits word) i false
-unfolding is_set
-word_bit word i h = ap (λ x. eqb x 1) (shr_and_one word i) ∙ sym (get_or-word_bits word i false h)
-
-pub ruleset bit_lists = (length-bits_in, get_or-bits_in, shifted_bit, length-word_bits, get_or-word_bits, word_bit)
+pub ruleset bit_lists = (length-bits_in, get_or-bits_in, shifted_bit, bit_of-word, length-word_bits, get_or-word_bits)

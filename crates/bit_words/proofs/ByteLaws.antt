@@ -12,9 +12,9 @@ use Rattle.std.specs.List.{range_with_len}
 use Rattle.bit_words.proofs.Finds.{least-find, none-find}
 use Rattle.std.proofs.Math.Pow.{mod-mod-pow}
 use Rattle.bit_words.specs.Bits.{is_set, word_bits, rank, excess}
-use Rattle.bit_words.specs.Bytes.{byte_excess, byte_least, least_front, place_in_byte, place_or_8, IsByteOne}
+use Rattle.bit_words.specs.Bytes.{byte_excess, byte_least, least_front, place_in_byte, place_or, IsByteOne}
 use Rattle.bit_words.proofs.BitLists.{length-word_bits, get_or-word_bits}
-use Rattle.bit_words.proofs.Ranks.{rank-zero, rank-le, rank_both, rank_more_yes, rank_more_no, excess_up, excess_down}
+use Rattle.bit_words.proofs.Ranks.{rank-zero, rank-le, rank-le-rank, rank_both, rank_more_yes, rank_more_no, excess_up, excess_down}
 
 pub excess-zero : (bits : List Bool) → excess bits 0 ≡ pos 0
 unfolding excess
@@ -61,22 +61,15 @@ pub byte_least-bounds : (byte : ℕ) → ((pos 0 -ℤ pos 8) ≤ℤ byte_least b
 unfolding byte_least
 byte_least-bounds byte = least_front-bounds (word_bits byte) 8 (eight_in byte)
 
-pub least_front-above : (bits : List Bool) (t : ℤ) (n : ℕ) → ((k : ℕ) → k ≤ n → t <ℤ excess bits k) → t <ℤ least_front bits n
-unfolding least_front
-least_front-above bits t zero h = let a = h 0 (omega arith) in omega (arith, ints, a, excess-zero bits)
-least_front-above bits t (suc n) h =
-    let r = least_front-above bits t n (λ k l. h k (omega arith)) in
-    let a = h (suc n) (omega arith) in
-    omega (arith, ints, clamps, r, a)
+-- eight bits sum to twice their ones, less 8
+pub eight_ones : (byte : ℕ) → excess (word_bits byte) 8 +ℤ pos 8 ≡ pos (2 * rank true (word_bits byte) 8)
+unfolding excess
+eight_ones byte = omega (arith, ints, rank_both (word_bits byte) 8 (eight_in byte))
 
--- the least front of a byte is at most each front, and above what all are above
-pub byte_least-le : (byte k : ℕ) → k ≤ 8 → byte_least byte ≤ℤ excess (word_bits byte) k
-unfolding byte_least
-byte_least-le byte k h = least_front-le (word_bits byte) 8 k h
-
-pub byte_least-above : (byte : ℕ) (t : ℤ) → ((k : ℕ) → k ≤ 8 → t <ℤ excess (word_bits byte) k) → t <ℤ byte_least byte
-unfolding byte_least
-byte_least-above byte t h = least_front-above (word_bits byte) t 8 h
+-- no more is risen than there are bits
+pub excess-rise : (bits : List Bool) (p n : ℕ) → p ≤ n → n ≤ length bits → excess bits n ≤ℤ (excess bits p +ℤ pos n)
+unfolding excess
+excess-rise bits p n h l = omega (arith, ints, rank_both bits p (omega arith), rank_both bits n l, rank-le-rank false bits p n h)
 
 pub byte_excess-is : (byte : ℕ) → byte_excess byte ≡ excess (word_bits byte) 8
 unfolding byte_excess
@@ -286,7 +279,7 @@ place_found byte j h =
     let a : (8 * byte + j) / 8 ≡ byte = omega arith in
     let b : (8 * byte + j) % 8 ≡ j = omega arith in
     let test : ℕ → Bool = λ p. is_set byte p && (rank true (word_bits byte) p == j) in
-    let P : Option ℕ → Type 0 = λ o. find test (range_with_len 0 8) ≡ o → IsByteOne byte j (place_or_8 o) in
+    let P : Option ℕ → Type 0 = λ o. find test (range_with_len 0 8) ≡ o → IsByteOne byte j (place_or 8 o) in
     let at : (o : Option ℕ) → P o = λ o. elim o as P [
       | None ↦ λ e. absurd (omega (arith, h, no_place byte j 8 (omega arith) (λ p l. none-find test 0 8 e p (omega arith) (omega arith))))
       | Some p ↦ λ e.

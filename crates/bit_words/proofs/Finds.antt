@@ -1,10 +1,12 @@
--- laws of `find` over a range of numbers, and of the first of some options
+-- laws of `find` over a range of numbers, of the last number that passes a test, and of the first of some options
 use Rattle.std.proofs.Common.{◌≡◌, ℕ, zero, suc, ◌+◌, ◌<◌, ◌≤◌, inl, inr, Bool, true, false, List, ◌∷◌, refl, sym, ap, subst, arith, Option, Some, None}
 use Rattle.std.specs.Prelude.{find}
 use Rattle.std.specs.List.{range_with_len}
-use Rattle.std.proofs.lemmas.Bool.{cases_Bool, cases_lt}
+use Rattle.std.proofs.lemmas.Bool.{cases_Bool, cases_lt, both_ways}
 use Rattle.std.proofs.lemmas.Option.{same_Some}
-use Rattle.bit_words.specs.Lists.{first_some}
+use Rattle.std.specs.Bool.{Decides}
+use Rattle.bit_words.specs.Bits.{IsNext, IsLast}
+use Rattle.bit_words.specs.Lists.{first_some, last_below}
 
 -- the least number of a range that passes a test
 pub record IsLeast (p : ℕ → Bool) (low high j : ℕ) : Type 0 where
@@ -54,6 +56,41 @@ none-find p low (suc n) h q above below =
         | inr g ↦ let e : q ≡ low = omega arith in rw e f
       ]
     ]
+
+module _ (p : ℕ → Bool) (P : ℕ → Type 0) (tells : (q : ℕ) → Decides (p q) (P q)) where
+  pub next-find : (low n : ℕ) (o : Option ℕ) → find p (range_with_len (low + 1) n) ≡ o → IsNext P low (low + n) o
+  next-find low n None e = λ q above upto x. both_ways (p q) (none-find p (low + 1) n e q (omega arith) (omega arith)) ((tells q).1 x)
+  next-find low n (Some j) e =
+      let l = least-find p (low + 1) n j e in
+      (omega (arith, l.from), omega (arith, l.within), (tells j).0 l.passes, λ q above below x. both_ways (p q) (l.before q (omega arith) below) ((tells q).1 x))
+
+  -- one number more, which does not pass
+  last_more : (n : ℕ) (o : Option ℕ) → p n ≡ false → IsLast P 0 n o → IsLast P 0 (suc n) o
+  last_more n None f h =
+      λ q above below x.
+      elim (cases_lt q n) [
+        | inl l ↦ h q above l x
+        | inr g ↦ let e : q ≡ n = omega arith in both_ways (p q) (rw e f) ((tells q).1 x)
+      ]
+  last_more n (Some j) f h = (
+    omega arith,
+    omega (arith, h.1),
+    h.2,
+    λ q above below x.
+        elim (cases_lt q n) [
+          | inl l ↦ h.3 q above l x
+          | inr g ↦ let e : q ≡ n = omega arith in both_ways (p q) (rw e f) ((tells q).1 x)
+        ],
+  )
+
+  pub last-below : (n : ℕ) → IsLast P 0 n (last_below p n)
+  unfolding last_below
+  last-below zero = λ q above below x. absurd (omega arith)
+  last-below (suc n) =
+      elim (cases_Bool (p n)) [
+        | inl y ↦ rw y (omega arith, omega arith, (tells n).0 y, λ q above below x. absurd (omega arith))
+        | inr f ↦ rw f (last_more n (last_below p n) f (last-below n))
+      ]
 
 -- none of some options is none of each
 pub first_none : {X : Type 0} (o : Option X) (os : List (Option X)) → first_some (o ∷ os) ≡ None → (o ≡ None) × (first_some os ≡ None)

@@ -1,10 +1,10 @@
-//! The bytes of a word: where they stand, what their bits come to, and a search in one of them.
+//! The bytes of a word: where they stand, what their bits come to, and searches in one of them.
 
 ghost use Rattle.std.specs.Prelude.{ℕ, ◌≡◌, ◌<◌, ◌≤◌, ◌+◌, ◌-◌, ◌*◌, true, pos, ◌+ℤ◌, ◌-ℤ◌, ◌≤ℤ◌};
 ghost use Rattle.bit_words.specs.Bits.{is_set, word_bits, rank, excess, IsNext, IsLast};
-ghost use Rattle.bit_words.specs.Bytes.{byte_excess, byte_least, IsByteOne};
+ghost use Rattle.bit_words.specs.Bytes.{byte_excess, byte_least, first_fall, last_rise, place_or, IsByteOne};
 
-use crate::tables::{BYTE_EXCESSES, BYTE_LEASTS, PLACES_IN_BYTES};
+use crate::tables::{BYTE_EXCESSES, BYTE_LEASTS, FIRST_FALLS, LAST_RISES, PLACES_IN_BYTES};
 
 /// The eight bits from place `at` on, with zeros from the end of the word on.
 #[inline]
@@ -71,6 +71,52 @@ pub(crate) fn ones_of_byte(byte: u8) -> u32
     byte.count_ones()
 }
 
+/// The entry of `FIRST_FALLS` for a byte and how far it falls.
+#[inline]
+fn fall_entry(byte: u8, need: u64) -> u32
+    requires some { 1 ≤ need }
+    requires few { need ≤ 8 }
+    ensures { result ≡ place_or 9 (first_fall byte need) }
+{
+    u32::from(FIRST_FALLS[8 * byte as usize + (need as usize - 1)])
+}
+
+/// The least place after 0 such that the bits before it sum to `-need`, where a one counts +1 and a zero -1.
+#[inline]
+pub(crate) fn first_fall_in_byte(byte: u8, need: u64) -> Option<u32>
+    requires { 1 ≤ need }
+    ensures { IsNext (λ p. excess (word_bits byte) p +ℤ pos need ≡ pos 0) 0 8 result }
+{
+    if need > 8 {
+        return None;
+    }
+    let place = fall_entry(byte, need);
+    if place <= 8 { Some(place) } else { None }
+}
+
+/// The entry of `LAST_RISES` for a byte and how far it rises.
+#[inline]
+fn rise_entry(byte: u8, need: u64) -> u32
+    requires some { 1 ≤ need }
+    requires few { need ≤ 8 }
+    ensures { result ≡ place_or 8 (last_rise byte need) }
+{
+    u32::from(LAST_RISES[8 * byte as usize + (need as usize - 1)])
+}
+
+/// The greatest place before 8 such that the bits from it on sum to `need`, where a one counts +1 and a zero -1.
+#[inline]
+pub(crate) fn last_rise_in_byte(byte: u8, need: u64) -> Option<u32>
+    requires { 1 ≤ need }
+    ensures { IsLast (λ p. excess (word_bits byte) p +ℤ pos need ≡ excess (word_bits byte) 8) 0 8 result }
+{
+    if need > 8 {
+        return None;
+    }
+    let place = rise_entry(byte, need);
+    if place < 8 { Some(place) } else { None }
+}
+
 /// The place of the one that has `j` ones below it.
 #[inline]
 pub(crate) fn place_in_byte(byte: u8, j: u32) -> u32
@@ -78,76 +124,4 @@ pub(crate) fn place_in_byte(byte: u8, j: u32) -> u32
     ensures { IsByteOne byte j result }
 {
     u32::from(PLACES_IN_BYTES[8 * byte as usize + j as usize])
-}
-
-/// How far the excess after bit `p` is above one that it is `need` above before that bit.
-#[inline]
-#[tactic(auto, using(crate::proofs::BitLists::bit_lists, crate::proofs::Ranks::ranks))]
-fn after_bit(word: u64, p: u32, need: u64) -> u64
-    requires within { p < 64 }
-    requires some { 1 ≤ need }
-    requires few { need ≤ 1024 }
-    ensures value { excess (word_bits word) (p + 1) +ℤ pos need ≡ excess (word_bits word) p +ℤ pos result }
-    ensures few { result ≤ need + 1 }
-{
-    if word >> p & 1 == 1 {
-        need + 1
-    } else {
-        need - 1
-    }
-}
-
-/// How far the excess before bit `p` is above one that it is `need` above after that bit.
-#[inline]
-#[tactic(auto, using(crate::proofs::BitLists::bit_lists, crate::proofs::Ranks::ranks))]
-fn before_bit(word: u64, p: u32, need: u64) -> u64
-    requires within { p < 64 }
-    requires some { 1 ≤ need }
-    requires few { need ≤ 1024 }
-    ensures value { excess (word_bits word) p +ℤ pos need ≡ excess (word_bits word) (p + 1) +ℤ pos result }
-    ensures few { result ≤ need + 1 }
-{
-    if word >> p & 1 == 1 {
-        need - 1
-    } else {
-        need + 1
-    }
-}
-
-/// The same as `first_excess`, bit by bit.
-#[inline]
-pub(crate) fn first_by_bits(word: u64, from: u32, to: u32, drop: u64) -> Option<u32>
-    requires order { from ≤ to }
-    requires within { to ≤ 64 }
-    requires some { 1 ≤ drop }
-    requires few { drop ≤ 16 }
-    ensures { IsNext (λ p. excess (word_bits word) p ≡ excess (word_bits word) from -ℤ pos drop) from to result }
-{
-    let mut need = drop;
-    for p in from..to {
-        need = after_bit(word, p, need);
-        if need == 0 {
-            return Some(p + 1);
-        }
-    }
-    None
-}
-
-/// The same as `last_excess`, bit by bit.
-#[inline]
-pub(crate) fn last_by_bits(word: u64, from: u32, to: u32, drop: u64) -> Option<u32>
-    requires order { from ≤ to }
-    requires within { to ≤ 64 }
-    requires some { 1 ≤ drop }
-    requires few { drop ≤ 16 }
-    ensures { IsLast (λ p. excess (word_bits word) p ≡ excess (word_bits word) to -ℤ pos drop) from to result }
-{
-    let mut need = drop;
-    for p in (from..to).rev() {
-        need = before_bit(word, p, need);
-        if need == 0 {
-            return Some(p);
-        }
-    }
-    None
 }

@@ -5,7 +5,7 @@ ghost use Rattle.bit_words.specs.Bits.{is_set, rank, excess, word_bits, IsSelect
 ghost use Rattle.bit_words.specs.Bytes.{least_front};
 
 use crate::byte::{
-    byte_from, byte_up_to, excess_of_byte, first_by_bits, last_by_bits, least_of_byte,
+    byte_from, byte_up_to, excess_of_byte, first_fall_in_byte, last_rise_in_byte, least_of_byte,
     ones_of_byte, place_in_byte,
 };
 
@@ -62,10 +62,14 @@ pub fn first_excess(word: u64, from: u32, to: u32, drop: u32) -> Option<u32>
     let mut at = from;
     while at < to {
         let byte = byte_from(word, at);
-        if need + least_of_byte(byte) <= 8 {
-            return first_by_bits(word, at, to.min(at + 8), need);
+        if let Some(place) = first_fall_in_byte(byte, need) {
+            return if place <= to - at {
+                Some(at + place)
+            } else {
+                None
+            };
         }
-        need = need + excess_of_byte(byte) - 8;
+        need = need + 2 * u64::from(ones_of_byte(byte)) - 8;
         at += 8;
     }
     None
@@ -84,13 +88,15 @@ pub fn last_excess(word: u64, from: u32, to: u32, drop: u32) -> Option<u32>
     let mut at = to;
     while at > from {
         let byte = byte_up_to(word, at);
-        let excess = excess_of_byte(byte);
-        let start = at.saturating_sub(8);
-        if need + least_of_byte(byte) <= excess {
-            return last_by_bits(word, from.max(start), at, need);
+        if let Some(place) = last_rise_in_byte(byte, need) {
+            return if from + 8 <= at + place {
+                Some(at + place - 8)
+            } else {
+                None
+            };
         }
-        need = need + 8 - excess;
-        at = start;
+        need = need + 8 - 2 * u64::from(ones_of_byte(byte));
+        at = at.saturating_sub(8);
     }
     None
 }

@@ -28,8 +28,8 @@ pub use packed_maker::PackedMaker;
 pub use packed_view::PackedView;
 pub use steps::Steps;
 pub use tables::{
-    BYTE_EXCESSES, BYTE_LEASTS, PLACES_IN_BYTES, byte_excesses_are_right, byte_leasts_are_right,
-    places_in_bytes_are_right,
+    BYTE_EXCESSES, BYTE_LEASTS, FIRST_FALLS, LAST_RISES, PLACES_IN_BYTES, byte_excesses_are_right,
+    byte_leasts_are_right, first_falls_are_right, last_rises_are_right, places_in_bytes_are_right,
 };
 pub use word_view::WordView;
 pub use wrong_entry::WrongEntry;

@@ -2,11 +2,13 @@
 
 ghost use Rattle.std.specs.Prelude.{◌≡◌, ◌<◌};
 
-use crate::byte::{byte_from, excess_of_byte, least_of_byte};
+use crate::byte::{
+    byte_from, excess_of_byte, first_fall_in_byte, last_rise_in_byte, least_of_byte,
+};
 use crate::{
     BitMaker, BitView, PackedMaker, PackedView, Steps, WordView, byte_excesses_are_right,
-    byte_leasts_are_right, deepest_fall, first_excess, last_excess, ones_below, place_of_one,
-    places_in_bytes_are_right,
+    byte_leasts_are_right, deepest_fall, first_excess, first_falls_are_right, last_excess,
+    last_rises_are_right, ones_below, place_of_one, places_in_bytes_are_right,
 };
 use std::alloc::Global;
 use std::marker::Brand;
@@ -437,8 +439,12 @@ fn bytes_sum_and_fall_as_their_bits_do(rt: HostRuntime) {
         assert_eq!(rt; least_of_byte(byte), least, "{byte}");
     }
     assert_eq!(rt; byte_from(72057594037927935, 52), 15);
+    assert_eq!(rt; first_fall_in_byte(4, 3), Some(5));
+    assert_eq!(rt; last_rise_in_byte(240, 2), Some(6));
     byte_excesses_are_right();
     byte_leasts_are_right();
+    first_falls_are_right();
+    last_rises_are_right();
     places_in_bytes_are_right();
 }
 

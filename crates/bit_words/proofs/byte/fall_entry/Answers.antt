@@ -1,0 +1,6 @@
+use Rattle.std.proofs.Common.{arith}
+use Rattle.bit_words.proofs.ByteTables.{fall-read}
+use Rattle.bit_words.proofs.byte.fall_entry.Goals as goal
+
+pub returns : goal.returns
+returns c = rw c.from.ensures (fall-read c.args.byte c.args.need (omega arith) c.requires.some c.requires.few 0)
