@@ -8,7 +8,7 @@ use Rattle.std.proofs.lemmas.List.Kept.{AllPairs-from_increasing}
 use Rattle.orbits.proofs.Lists.{in_filter, from_filter}
 use Rattle.orbits.proofs.Numbers.{same_numbers}
 use Rattle.plane_model.specs.Sets.{has}
-use Rattle.islands.specs.Lists.{AreLists, listed}
+use Rattle.islands.specs.Lists.{AreLists}
 use Rattle.islands.specs.Rounds.{AreIncreasing, AreRoundRings, is_fresh, fresh_on}
 use Rattle.islands.proofs.Members.{has_front, has_back, has_either}
 
@@ -56,22 +56,22 @@ from_flat g (y ∷ fs) x h = elim (has_either (g y) (flat_map g fs) x h) [
   | inr b ↦ let r = from_flat g fs x b in (r.0, or_right (r.0 == y) _ r.1, r.2)
 ]
 
-pub round_of : (faces components front : List ℕ) (reached : List Bool) (lists : List (List ℕ)) (found now : List ℕ) → found ≡ fresh_on components reached lists front → IsStrictlyIncreasing now
-    → ((i : ℕ) → Contains found i → Contains now i) → ((i : ℕ) → Contains now i → Contains found i) → AreLists faces lists → AreRoundRings faces components front reached now
-round_of faces components front reached lists found now e up all only by_face =
+pub round_of : (faces components front : List ℕ) (reached : List Bool) (on_face : ℕ → List ℕ) (found now : List ℕ) → found ≡ fresh_on components reached on_face front → IsStrictlyIncreasing now
+    → ((i : ℕ) → Contains found i → Contains now i) → ((i : ℕ) → Contains now i → Contains found i) → AreLists faces on_face → AreRoundRings faces components front reached now
+round_of faces components front reached on_face found now e up all only by_face =
     let fresh : ℕ → Bool = is_fresh components reached in
-    let g : ℕ → List ℕ = λ f. filter fresh (listed lists f) in
+    let g : ℕ → List ℕ = λ f. filter fresh (on_face f) in
     record {
       increases = increases_from now (AllPairs-from_increasing now up);
       sound = λ i on.
           let in_found : has (flat_map g front) i ≡ true = subst (λ xs. has xs i ≡ true) e (has_from_Contains found i (only i (Contains_from_has now i on))) in
           let f = from_flat g front i in_found in
-          let it = from_filter same_numbers fresh (listed lists f.0) i f.2 in
+          let it = from_filter same_numbers fresh (on_face f.0) i f.2 in
           let key = by_face.sound f.0 i it.1 in
           (key.0, subst (λ z. has front z ≡ true) (sym key.1) f.1, not-true (slice_index_or reached (slice_index components i) false) it.0);
       complete = λ i below on unreached.
           let in_list = by_face.complete i below in
           let passes : fresh i ≡ true = rw unreached refl in
-          let in_found = in_flat g front (slice_index faces i) i on (has_filter fresh (listed lists (slice_index faces i)) i in_list passes) in
+          let in_found = in_flat g front (slice_index faces i) i on (has_filter fresh (on_face (slice_index faces i)) i in_list passes) in
           has_from_Contains now i (all i (Contains_from_has found i (subst (λ xs. has xs i ≡ true) (sym e) in_found)));
     }

@@ -3,7 +3,7 @@ use Rattle.std.proofs.Common.{◌≡◌, ℕ, ◌<◌, ◌⊎◌, inl, inr, Bool
 use Rattle.std.specs.Prelude.{slice_index, slice_index_or, slice_set}
 use Rattle.std.proofs.lemmas.Bool.{cases_Bool, both_ways}
 use Rattle.plane_model.specs.Sets.{has}
-use Rattle.islands.specs.Lists.{AreLists, listed}
+use Rattle.islands.specs.Lists.{AreLists}
 use Rattle.islands.specs.Rounds.{AreEntered, AreAllEntered, KeysAreMarked, AreNextFaces, IsBeside}
 use Rattle.islands.proofs.Members.{has_front}
 use Rattle.islands.proofs.Opening.{last_has, has_last, set_on, set_stays, set_only, set_length}
@@ -38,20 +38,6 @@ opens_as faces P R old new before after p to from =
       opened = p.opened;
     }
 
-pub opens_begin : (faces components : List ℕ) (old : List Bool) → AreEntered faces (IsBeside faces components []) old old [] []
-opens_begin faces components old =
-    record {
-      same = refl;
-      stays = λ k h. h;
-      all = λ q h. absurd (both_ways false refl h.1.1);
-      kept = λ f h. h;
-      added = λ f h. inl h;
-      opened = λ k h on. absurd (both_ways _ h on);
-    }
-
-pub marked_begin : (key : ℕ → ℕ) (old : List Bool) → KeysAreMarked key [] old old
-marked_begin key old = record { same = refl; stays = λ k h. h; marks = λ i h. absurd (both_ways false refl h); only = λ k on off. absurd (both_ways _ off on) }
-
 -- a component that was not marked
 pub marked_push : (key : ℕ → ℕ) (now : List ℕ) (old new : List Bool) (s : ℕ) → KeysAreMarked key now old new → key s < length new → KeysAreMarked key (now ++ s ∷ []) old (slice_set new (key s) true)
 marked_push key now old new s m below =
@@ -78,16 +64,16 @@ marked_skip key now old new s m on =
       only = λ k was off. let i = m.only k was off in (i.0, has_front now (s ∷ []) i.0 i.1, i.2);
     }
 
-pub beside_push : (faces components : List ℕ) (lists : List (List ℕ)) (now : List ℕ) (s : ℕ) (old mid new : List Bool) (a b : List ℕ) → length components ≡ length faces → AreLists components lists → AreEntered faces (IsBeside faces components now) old mid [] a
-    → AreAllEntered faces (listed lists (slice_index components s)) mid new a b → AreEntered faces (IsBeside faces components (now ++ s ∷ [])) old new [] b
-beside_push faces components lists now s old mid new a b same by p q =
-    opens_join faces (IsBeside faces components now) (λ x. has (listed lists (slice_index components s)) x ≡ true) (IsBeside faces components (now ++ s ∷ [])) old mid new [] a b p q
+pub beside_push : (faces components : List ℕ) (list : ℕ → List ℕ) (now : List ℕ) (s : ℕ) (old mid new : List Bool) (a b : List ℕ) → length components ≡ length faces → AreLists components list → AreEntered faces (IsBeside faces components now) old mid [] a
+    → AreAllEntered faces (list (slice_index components s)) mid new a b → AreEntered faces (IsBeside faces components (now ++ s ∷ [])) old new [] b
+beside_push faces components list now s old mid new a b same by p q =
+    opens_join faces (IsBeside faces components now) (λ x. has (list (slice_index components s)) x ≡ true) (IsBeside faces components (now ++ s ∷ [])) old mid new [] a b p q
     (λ x h. elim (last_has now s h.1.0 h.1.1) [
       | inl was ↦ inl (h.0, (h.1.0, was, h.1.2))
       | inr is ↦
           let lt : x < length faces = h.0 in
           let e : slice_index components x ≡ slice_index components s = h.1.2 ∙ ap (slice_index components) is in
-          inr (subst (λ z. has (listed lists z) x ≡ true) e (by.complete x (omega arith)))
+          inr (subst (λ z. has (list z) x ≡ true) e (by.complete x (omega arith)))
     ])
     (λ x h. (h.0, (h.1.0, has_front now (s ∷ []) h.1.0 h.1.1, h.1.2)))
     (λ x h.
@@ -113,13 +99,4 @@ next_faces faces components now old new next o =
         | inr w ↦ (w.0, (w.2.1.1.0, w.2.0, w.2.1.1.1, w.2.1.0, w.2.1.1.2, w.2.2))
       ];
       complete = λ i j on below e off. o.opened (slice_index faces j) off (o.all j (below, (i, on, e)));
-    }
-
-pub next_marked : (faces : List ℕ) (P : ℕ → Type 0) (old new : List Bool) (next : List ℕ) → AreEntered faces P old new [] next → KeysAreMarked (λ f. f) next old new
-next_marked faces P old new next o =
-    record {
-      same = o.same;
-      stays = o.stays;
-      marks = λ f h. elim (o.added f h) [ inl none ↦ absurd (both_ways false refl none) | inr w ↦ w.1 ];
-      only = λ k on off. (k, o.opened k off on, refl);
     }

@@ -1,5 +1,5 @@
 pub mod Members
-pub mod Listed
+pub mod Chains
 pub mod Opening
 pub mod Gathering
 pub mod Collected

@@ -6,17 +6,6 @@ use Rattle.plane_model.specs.Sets.{has}
 use Rattle.islands.specs.Rounds.{AreAllEntered}
 use Rattle.islands.proofs.Members.{has_front, has_back, has_either}
 
-pub opens_none : (faces : List ℕ) (old : List Bool) (before : List ℕ) → AreAllEntered faces [] old old before before
-opens_none faces old before =
-    record {
-      same = refl;
-      stays = λ k h. h;
-      all = λ q h. absurd (both_ways false refl h);
-      kept = λ f h. h;
-      added = λ f h. inl h;
-      opened = λ k h on. absurd (both_ways _ h on);
-    }
-
 pub last_has : (rings : List ℕ) (q x : ℕ) → has (rings ++ q ∷ []) x ≡ true → (has rings x ≡ true) ⊎ (x ≡ q)
 last_has rings q x h = elim (has_either rings (q ∷ []) x h) [
   | inl a ↦ inl a

@@ -1,5 +1,5 @@
 -- The numbers of a map's rings, faces and components.
-use Rattle.std.specs.Prelude.{◌≡◌, ◌<◌, ◌≤◌, ◌^◌, ℕ, Bool, List, ◌∷◌, length, map, slice_index}
+use Rattle.std.specs.Prelude.{◌≡◌, ◌<◌, ◌^◌, ℕ, Bool, List, ◌∷◌, length, map, slice_index}
 use Rattle.plane_model.specs.declared.rows.EdgeRow.{EdgeRow}
 use Rattle.plane_model.specs.declared.rows.FaceRow.{FaceRow}
 use Rattle.plane_model.specs.PlaneMap.{PlaneMap, rings}
@@ -25,7 +25,7 @@ pub record IsNumberedMap (r : RotationRows) (faces : List FaceRow) (numbers : Nu
   pub component_numbers : n.component_of.items ≡ map (slice_index numbers.of_darts) n.rings.items
   pub numbered : AreRingNumbers (map_with_faces r faces) (slice_index n.face_ids.items) n.face_of.items n.component_of.items (length n.face_ids.items)
   pub below : AreBelow n.face_of.items n.component_of.items (length n.face_ids.items) numbers.count
-  pub short : length n.face_of.items ≤ 2 ^ 32
+  pub short : length n.face_of.items < 2 ^ 32
 
 -- each component, given by a dart, is marked at its number exactly where it is reached
 abbrev pub AreReachedMarked : PlaneMap → List EdgeRow → (ℕ → ℕ) → List ℕ → List Bool → Type 0

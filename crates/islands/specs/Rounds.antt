@@ -3,7 +3,6 @@
 use Rattle.std.specs.Prelude.{◌≡◌, ◌<◌, ◌⊎◌, ℕ, Bool, true, false, not, IsTrue, List, [], ◌∷◌, flat_map, length, slice_index, slice_index_or}
 use Rattle.std.specs.List.{filter}
 use Rattle.plane_model.specs.Sets.{has}
-use Rattle.islands.specs.Lists.{listed}
 
 -- whether the number k is marked
 abbrev pub is_marked : List Bool → ℕ → Bool
@@ -37,8 +36,8 @@ abbrev pub is_fresh : List ℕ → List Bool → ℕ → Bool
 is_fresh components reached i = not (is_marked reached (slice_index components i))
 
 -- the rings on these faces that were not reached, in order and as often as they come
-abbrev pub fresh_on : List ℕ → List Bool → List (List ℕ) → List ℕ → List ℕ
-fresh_on components reached lists front = flat_map (λ f. filter (is_fresh components reached) (listed lists f)) front
+abbrev pub fresh_on : List ℕ → List Bool → (ℕ → List ℕ) → List ℕ → List ℕ
+fresh_on components reached on_face front = flat_map (λ f. filter (is_fresh components reached) (on_face f)) front
 
 -- the faces of some rings are entered, and those that were not before are appended
 pub record AreEntered (faces : List ℕ) (P : ℕ → Type 0) (old new : List Bool) (before after : List ℕ) : Type 0 where

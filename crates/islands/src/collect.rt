@@ -1,30 +1,47 @@
 //! The rings of a round.
 
-ghost use Rattle.std.specs.Prelude.{◌≡◌, ◌<◌, ◌^◌, ◌++◌, ℕ, Bool, List, IsTrue, IfOk, OnOk, length, map, slice_index};
+ghost use Rattle.std.specs.Prelude.{◌≡◌, ◌<◌, ◌^◌, ◌++◌, ℕ, Bool, List, IsTrue, IfOk, OnOk, length, slice_index};
 ghost use Rattle.std.specs.List.{filter, Contains};
 ghost use Rattle.std.specs.List.Sorted.{IsStrictlyIncreasing};
 ghost use Rattle.plane_model.specs.Sets.{has};
-ghost use Rattle.islands.specs.Lists.{AreLists, listed};
+ghost use Rattle.islands.specs.Lists.{AreLists, AreChains, listed};
 ghost use Rattle.islands.specs.Numbered.{AreBelow};
-ghost use Rattle.islands.specs.Rounds.{AreRoundRings, is_fresh, fresh_on};
+ghost use Rattle.islands.specs.Rounds.{AreRoundRings, is_marked, is_fresh, fresh_on};
 
+use crate::gather::NumbersByKey;
 use std::alloc::{AllocError, Global};
 
-/// Appends those of some rings whose component was not reached.
+/// Whether a ring's component was reached.
+fn is_reached(components: &[u32], reached: &[bool], ring: u32) -> bool
+    requires ring { ring < length components.now }
+    requires component { slice_index components.now ring < length reached.now }
+    ensures { result ≡ is_marked reached.now (slice_index components.now ring) }
+{
+    reached[components[ring as usize] as usize]
+}
+
+/// Appends those of a face's rings whose component was not reached.
 fn add_fresh(
-    rings: &[u32],
+    on_face: &NumbersByKey,
+    face: u32,
     components: &[u32],
     reached: &[bool],
     now: &mut Vec<u32>,
 ) -> Result<(), AllocError>
-    requires rings { (k : ℕ) → k < length rings.now → slice_index rings.now k < length components.now }
+    requires face { face < length on_face.now.last.items }
+    requires same { length on_face.now.before.items ≡ length components.now }
+    requires chains { AreChains on_face.now.last.items on_face.now.before.items }
     requires components { (i : ℕ) → i < length components.now → slice_index components.now i < length reached.now }
-    ensures { OnOk result (now.new.items ≡ now.old.items ++ filter (is_fresh components.now reached.now) rings.now) }
+    ensures { OnOk result (now.new.items ≡ now.old.items ++ filter (is_fresh components.now reached.now)
+        (listed on_face.now.last.items on_face.now.before.items face)) }
 {
-    for r in rings {
-        if !reached[components[*r as usize] as usize] {
-            now.push(*r)?;
+    let mut left = on_face.last[face as usize];
+    while left != 0 {
+        let ring = left - 1;
+        if !is_reached(components, reached, ring) {
+            now.push(ring)?;
         }
+        left = on_face.before[ring as usize];
     }
     Ok(())
 }
@@ -32,21 +49,21 @@ fn add_fresh(
 /// The rings on the faces of the front whose component was not reached.
 fn collect(
     alloc: Global,
-    lists: &[Vec<u32>],
+    on_face: &NumbersByKey,
     components: &[u32],
     reached: &[bool],
     front: &[u32],
 ) -> Result<Vec<u32>, AllocError>
-    requires front { (k : ℕ) → k < length front.now → slice_index front.now k < length lists.now }
-    requires rings { (f k : ℕ) → let rings = listed (map (λ v. v.items) lists.now) f in k < length rings
-        → slice_index rings k < length components.now }
+    requires front { (k : ℕ) → k < length front.now → slice_index front.now k < length on_face.now.last.items }
+    requires same { length on_face.now.before.items ≡ length components.now }
+    requires chains { AreChains on_face.now.last.items on_face.now.before.items }
     requires components { (i : ℕ) → i < length components.now → slice_index components.now i < length reached.now }
     ensures { IfOk result (λ now. now.items ≡ fresh_on components.now reached.now
-        (map (λ v. v.items) lists.now) front.now) }
+        (listed on_face.now.last.items on_face.now.before.items) front.now) }
 {
     let mut now: Vec<u32> = Vec::new(alloc);
     for f in front {
-        add_fresh(&lists[*f as usize], components, reached, &mut now)?;
+        add_fresh(on_face, *f, components, reached, &mut now)?;
     }
     Ok(now)
 }
@@ -66,16 +83,16 @@ fn rising(numbers: Vec<u32>) -> Vec<u32>
 /// The rings of a round, rising.
 pub fn round_rings(
     alloc: Global,
-    on_face: &[Vec<u32>],
+    on_face: &NumbersByKey,
     components: &[u32],
     reached: &[bool],
     front: &[u32],
 ) -> Result<Vec<u32>, AllocError>
-    requires front { (k : ℕ) → k < length front.now → slice_index front.now k < length on_face.now }
-    requires rings { (f k : ℕ) → let rings = listed (map (λ v. v.items) on_face.now) f in k < length rings
-        → slice_index rings k < length components.now }
+    requires front { (k : ℕ) → k < length front.now → slice_index front.now k < length on_face.now.last.items }
+    requires same { length on_face.now.before.items ≡ length components.now }
+    requires chains { AreChains on_face.now.last.items on_face.now.before.items }
     requires components { (i : ℕ) → i < length components.now → slice_index components.now i < length reached.now }
-    ensures { IfOk result (λ now. (faces : List ℕ) → AreLists faces (map (λ v. v.items) on_face.now)
+    ensures { IfOk result (λ now. (faces : List ℕ) → AreLists faces (listed on_face.now.last.items on_face.now.before.items)
         → AreRoundRings faces components.now front.now reached.now now.items) }
 {
     let found = collect(alloc, on_face, components, reached, front)?;

@@ -1,6 +1,6 @@
 //! Placing by rounds.
 
-ghost use Rattle.std.specs.Prelude.{◌≡◌, ◌≤◌, ◌<◌, ◌^◌, ℕ, Bool, List, IfOk, IsTrue, length, slice_index};
+ghost use Rattle.std.specs.Prelude.{◌≡◌, ◌<◌, ◌^◌, ℕ, Bool, List, IfOk, IsTrue, length, slice_index};
 ghost use Rattle.plane_model.specs.Sets.{has};
 ghost use Rattle.islands.specs.Numbered.{AreBelow};
 ghost use Rattle.islands.specs.Starts.{AreOuterRings};
@@ -20,7 +20,7 @@ pub fn outer_rings(
     component_count: usize,
 ) -> Result<Vec<u32>, AllocError>
     requires below { AreBelow faces.now components.now face_count component_count }
-    requires short { length faces.now ≤ 2 ^ 32 }
+    requires short { length faces.now < 2 ^ 32 }
     ensures below { IfOk result (λ starts. (s : ℕ) → IsTrue (has starts.items s) → s < length faces.now) }
     ensures rings { IfOk result (λ starts. AreOuterRings faces.now components.now face_count starts.items) }
 {

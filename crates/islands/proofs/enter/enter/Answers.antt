@@ -1,28 +1,14 @@
-use Rattle.std.proofs.Common.{rules, ◌≡◌, ◌<◌, ℕ, Bool, List, [], length, map, take, subst, sym, ap, ◌∙◌, false, true, arith, Vec, Global}
+use Rattle.std.proofs.Common.{rules, ◌≡◌, ◌<◌, ℕ, Bool, List, [], length, take, subst, sym, ap, ◌∙◌, false, true, arith}
 use Rattle.std.specs.Prelude.{slice_index, slice_index_or}
 use Rattle.std.proofs.lemmas.List.{take_more}
 use Rattle.std.proofs.Math.Seq.{take-length}
-use Rattle.islands.specs.Lists.{AreLists, listed}
+use Rattle.islands.specs.Lists.{listed}
 use Rattle.islands.specs.Rounds.{AreEntered, AreAllEntered, IsBeside}
-use Rattle.islands.proofs.Listed.{listed_is}
 use Rattle.islands.proofs.Collected.{has_index}
 use Rattle.islands.proofs.Opening.{read_on, set_length}
 use Rattle.islands.proofs.Entering.{marked_push, marked_skip, beside_push, beside_skip, next_faces}
 use Rattle.islands.proofs.enter.enter.Goals as goal
 use Rattle.islands.proofs.enter.enter.Goals.{then-not-index+in_ok-open, else-not-index}
-
--- the numbers listed at a key are below the number of keys
-listed_below : (keys : List ℕ) (lists : List (List ℕ)) → AreLists keys lists → (n : ℕ) → length keys ≡ n → (f k : ℕ) → k < length (listed lists f) → slice_index (listed lists f) k < n
-listed_below keys lists by n same f k lt = let it = (by.sound f (slice_index (listed lists f) k) (has_index (listed lists f) k lt)).0 in subst (λ z. slice_index (listed lists f) k < z) same it
-
-pub open-requires-clause-rings : goal.open-requires-clause-rings
-open-requires-clause-rings c =
-    let C : List ℕ = c.args.components.now in
-    let s : ℕ = slice_index c.args.now.now c.loop-s.s-index in
-    let lists : List (List ℕ) = map (λ (x : Vec ℕ Global). x.items) c.args.in_component.now in
-    let below : slice_index C s < length c.args.in_component.now = search rules in
-    let e : listed lists (slice_index C s) ≡ c.deref.result.now = listed_is c.args.in_component.now (slice_index C s) c.index-in_component-component.result below c.index-in_component-component.is ∙ sym c.deref.ensures.value in
-    subst (λ (xs : List ℕ). (k : ℕ) → k < length xs → slice_index xs k < length c.args.faces.now) e (listed_below C lists c.requires.lists (length c.args.faces.now) c.requires.same (slice_index C s))
 
 pub loop-s-preserved : goal.loop-s-preserved
 loop-s-preserved c =
@@ -37,19 +23,16 @@ loop-s-preserved c =
     let entered : List Bool = c.loop-s.entered.items in
     let next : List ℕ = c.loop-s.next.items in
     let inv = c.loop-s.invariant in
-    let lists : List (List ℕ) = map (λ (x : Vec ℕ Global). x.items) c.args.in_component.now in
+    let list : ℕ → List ℕ = listed c.args.in_component.now.last.items c.args.in_component.now.before.items in
     let key_below : slice_index C s < length old = search rules in
     let key_now : slice_index C s < length reached = subst (λ n. slice_index C s < n) (sym inv.reached_many) key_below in
     let more = take_more now i 0 within in
     elim c.if-not-index.branch [
       | then-not-index+in_ok-open w ↦
-          let below : slice_index C s < length c.args.in_component.now = subst (λ n. slice_index C s < n) (sym c.requires.listed) key_below in
-          let e : listed lists (slice_index C s) ≡ w.deref.result.now = listed_is c.args.in_component.now (slice_index C s) w.index-in_component-component.result below w.index-in_component-component.is ∙ sym w.deref.ensures.value in
-          let q : AreAllEntered F (listed lists (slice_index C s)) entered w.open.new.entered.items next w.open.new.next.items =
-          subst (λ (xs : List ℕ). AreAllEntered F xs entered w.open.new.entered.items next w.open.new.next.items) (sym e) w.in_ok-open.ensures in
+          let q : AreAllEntered F (list (slice_index C s)) entered w.open.new.entered.items next w.open.new.next.items = w.in_ok-open.ensures in
           rw (more, w.reached-is, w.entered-is, w.next-is) (record {
             marked = marked_push (slice_index C) (take i now) old reached s inv.marked key_now;
-            opens = beside_push F C lists (take i now) s c.args.entered.now.items entered w.open.new.entered.items next w.open.new.next.items c.requires.same c.requires.lists inv.opens q;
+            opens = beside_push F C list (take i now) s c.args.entered.now.items entered w.open.new.entered.items next w.open.new.next.items c.requires.same c.requires.lists inv.opens q;
             reached_many = set_length reached (slice_index C s) ∙ inv.reached_many;
             entered_many = q.same ∙ inv.entered_many;
           })
