@@ -3,6 +3,7 @@ pub mod Visiting
 pub mod Marking
 pub mod Sweeping
 pub mod Counting
+pub mod Slots
 pub mod SortedIds
 pub mod HighParts
 pub mod DigitBounds
