@@ -12,7 +12,7 @@ use Rattle.navigate.specs.declared.face_rings.FaceWalk.{FaceWalk}
 use Rattle.navigate.specs.declared.orbit_walk.OrbitWalk.{OrbitWalk}
 use Rattle.navigate.proofs.FaceLaws.{face-left, rest-is}
 use Rattle.navigate.proofs.Resting.{rest-at}
-use Rattle.navigate.proofs.SideLaws.{allowance-several}
+use Rattle.navigate.proofs.RankLists.{allowance-several}
 
 -- the edges of a ring, and what is left of the rings
 pub face_several : (w : FaceWalk) (edges : List ℤ) (ring : OrbitWalk) (left : List ℕ) → orbits.contents_in ring ≡ orbits.contents_in w.ring → orbits.rest w.ring ≡ edges ++ orbits.rest ring

@@ -149,9 +149,6 @@ module _ (c : Contents) (h : is_whole c ≡ true) where
   pub id_ok : (e id : ℕ) → e < length c.edges → id ≡ slice_index c.edges e → IsTrue (is_id (LARGEST_ID + 1) id)
   id_ok e id l is = let r = w.edge_names.in_range e l in and_from (nat_le 1 id) (nat_lt id (LARGEST_ID + 1)) (le-leb 1 id (omega (arith, is, r.0))) (lt-ltb id (LARGEST_ID + 1) (omega (arith, is, r.1)))
 
-  pub id_some : (e : ℕ) → e < length c.edges → 0 < slice_index c.edges e
-  id_some e l = let r = w.edge_names.in_range e l in omega (arith, r.0)
-
   -- the first position of an edge, and its mate
   pub first_edge : (k : Code) (number first : ℕ) (b : Bool) (d : ℤ) → k ≡ c.code → Some first ≡ first_of_edge k number → b ≡ slice_index_or c.forward number false → slice_index c.edges number ≡ edges.edge_of d
       → signed_at c (if beq b (edges.is_forward d) then first else mate c.code first) ≡ d

@@ -21,5 +21,5 @@ pub mod Occurrences
 pub mod WithinLaws
 pub mod AcrossLaws
 pub mod ClearLaws
-pub mod SideLaws
+pub mod RankLists
 pub mod FaceSides

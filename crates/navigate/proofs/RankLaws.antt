@@ -1,8 +1,10 @@
 -- Signed edges are in the order of their ranks.
-use Rattle.std.specs.Prelude.{nat_lt, ◌==◌, neg_ℤ, if◌then◌else◌}
-use Rattle.std.proofs.Common.{◌≡◌, ℕ, suc, zero, ◌<◌, inl, inr, ℤ, pos, Bool, true, false, length, refl, ap, sym, ◌∙◌, arith}
-use Rattle.std.proofs.lemmas.Bool.{cases_order, lt-ltb, le-ltb, eq-eqb, ne_eqb}
+use Rattle.std.specs.Prelude.{nat_lt, nat_le, IsTrue, ◌==◌, neg_ℤ, if◌then◌else◌}
+use Rattle.std.proofs.Common.{◌≡◌, ℕ, ◌+◌, suc, zero, ◌<◌, inl, inr, ℤ, pos, Bool, true, false, length, refl, ap, sym, ◌∙◌, subst, arith}
+use Rattle.std.proofs.lemmas.Bool.{cases_order, lt-ltb, le-ltb, eq-eqb, ne_eqb, leb-true, and_parts}
 use Rattle.topo_base.specs.SignedEdge.{edge_of, is_forward, comes_before}
+use Rattle.topo_base.specs.declared.id.TheConstants.{LARGEST_ID}
+use Rattle.id_names.specs.Names.{is_id}
 use Rattle.id_names.specs.RisingNames.{RisingNames, ids_by_number, id_at}
 use Rattle.navigate.specs.Ranked.{IsRankOf, ranks_before}
 use Rattle.navigate.specs.declared.ranked.RankedEdge.{RankedEdge}
@@ -39,14 +41,14 @@ before_by_rank names a b d e rising of_d of_e =
     rw less (rw same (rw (sym of_d.direction) (rw (sym of_e.direction) refl)))
 
 -- an id with a direction, whose rank this is
-pub rank_of_signed : (names : RisingNames) (ranked : RankedEdge) (id : ℕ) (d : ℤ) → 0 < id → id_at names ranked.rank ≡ id → ranked.rank < length (ids_by_number names) → d ≡ (if ranked.is_forward then pos id else neg_ℤ (pos id)) → IsRankOf names ranked d
-rank_of_signed names ranked zero d some at within is = absurd (omega (arith, some))
-rank_of_signed names ranked (suc n) d some at within is = by_direction ranked.is_forward refl
+pub rank_of_signed : (names : RisingNames) (ranked : RankedEdge) (id : ℕ) (d : ℤ) → IsTrue (is_id (LARGEST_ID + 1) id) → id_at names ranked.rank ≡ id → ranked.rank < length (ids_by_number names) → d ≡ (if ranked.is_forward then pos id else neg_ℤ (pos id)) → IsRankOf names ranked d
+rank_of_signed names ranked zero d one at within is = absurd (omega (arith, leb-true 1 zero (and_parts (nat_le 1 zero) (nat_lt zero (LARGEST_ID + 1)) one).0))
+rank_of_signed names ranked (suc n) d one at within is = by_direction ranked.is_forward refl
   where
     by_direction : (b : Bool) → ranked.is_forward ≡ b → IsRankOf names ranked d
     by_direction true e =
         let here : d ≡ pos (suc n) = is ∙ ap (λ t. if t then pos (suc n) else neg_ℤ (pos (suc n))) e in
-        record { id = at ∙ ap edge_of (sym here); within = within; direction = e ∙ ap is_forward (sym here) }
+        record { id = at ∙ ap edge_of (sym here); within = within; direction = e ∙ ap is_forward (sym here); in_range = subst (λ x. IsTrue (is_id (LARGEST_ID + 1) (edge_of x))) (sym here) one }
     by_direction false e =
         let here : d ≡ neg_ℤ (pos (suc n)) = is ∙ ap (λ t. if t then pos (suc n) else neg_ℤ (pos (suc n))) e in
-        record { id = at ∙ ap edge_of (sym here); within = within; direction = e ∙ ap is_forward (sym here) }
+        record { id = at ∙ ap edge_of (sym here); within = within; direction = e ∙ ap is_forward (sym here); in_range = subst (λ x. IsTrue (is_id (LARGEST_ID + 1) (edge_of x))) (sym here) one }

@@ -11,4 +11,4 @@ pub mod RegionWalk
 pub mod AdjacentWalk
 pub mod Standing
 pub mod Several
-pub mod EdgeSides
+pub mod RankedEdges

@@ -4,10 +4,10 @@ ghost use Rattle.std.specs.Prelude.{◌<◌, length};
 ghost use Rattle.pemb_file.specs.Served.{contents_of_view};
 ghost use Rattle.navigate.specs.KeptStops.{AreKept};
 
-use crate::edge_sides::{EdgeSide, EdgeSides};
 use crate::kept_stops::KeptStops;
 use crate::positions;
 use crate::ranked::{RankedEdge, ranked_with};
+use crate::ranked_edges::{RankedEdges, edges_of};
 use crate::several::Several;
 use bit_words::Steps;
 use id_names::NamesView;
@@ -53,9 +53,9 @@ impl<'a> OrbitWalk<'a> {
     ghost use Rattle.navigate.specs.KeptStops.{IsStop};
     ghost use Rattle.id_names.specs.Views.{ids_of, names_in};
     ghost use Rattle.navigate.specs.OrbitWalk.{contents_in, positions_left, rest, price, allowance};
-    ghost use Rattle.navigate.specs.Ranked.{IsRankOf};
+    ghost use Rattle.navigate.specs.Ranked.{IsRankOf, AreRanksOf};
     ghost use Rattle.navigate.specs.Several.{edges_in};
-    ghost use Rattle.navigate.specs.EdgeSides.{IsSideOf, AreSidesOf, sides_in};
+    ghost use Rattle.navigate.specs.RankedEdges.{ranks_in};
 
     /// The walk that begins at a position, which may be in this component, and ends before it.
     pub(crate) fn from(served: Served<'a>, kind: bool, p: usize, component: usize) -> OrbitWalk<'a>
@@ -243,7 +243,7 @@ impl<'a> OrbitWalk<'a> {
         ensures within { MatchOption result (positions_left self.new ≡ [])
             (λ found. found.0 < length (contents_in self.old).code.a) }
         ensures cost { MatchOption result (steps.new ≡ steps.old) (λ _. (steps.old + 1 ≤ steps.new)
-            × (steps.new ≤ steps.old + price (contents_in self.old))) }
+            × (steps.new ≤ steps.old + (13 * line_digits (contents_in self.old) + 119))) }
     {
         if self.left == 0 {
             return None;
@@ -269,45 +269,31 @@ impl<'a> OrbitWalk<'a> {
         }
     }
 
-    /// The edge at the next position, whose id isn't read yet, or None at the end.
-    fn side<C: Ledger>(&mut self, steps: &mut Steps<C>) -> Option<EdgeSide>
+    /// The signed edges at the next positions by their ranks among these names of the edges, as many as are given at
+    /// once, or fewer: none at the end alone.
+    fn several_ranked<C: Ledger>(
+        &mut self,
+        edges: &NamesView<'_>,
+        steps: &mut Steps<C>,
+    ) -> RankedEdges
+        requires { ids_of edges.now ≡ (contents_in self.old).edges }
         ensures contents { contents_in self.new ≡ contents_in self.old }
-        ensures next { MatchOption result (rest self.old ≡ [])
-            (λ side. (d : ℤ) × (rest self.old ≡ d ∷ rest self.new) × IsSideOf (contents_in self.old) side d) }
-        ensures end { IsNone result → rest self.new ≡ [] }
-        ensures cost { MatchOption result (steps.new ≡ steps.old) (λ _. (steps.old + 1 ≤ steps.new)
-            × (steps.new ≤ steps.old + (13 * line_digits (contents_in self.old) + 116))) }
-    {
-        if self.left == 0 {
-            return None;
-        }
-        let stop = self.look(steps);
-        self.go_on(stop.next);
-        Some(EdgeSide {
-            number: stop.edge,
-            is_first: stop.is_first,
-        })
-    }
-
-    /// The edges at the next positions, as many as are given at once, or fewer: none at the end alone.
-    fn sides<C: Ledger>(&mut self, steps: &mut Steps<C>) -> EdgeSides
-        ensures contents { contents_in self.new ≡ contents_in self.old }
-        ensures gives { (edges : List ℤ) × (rest self.old ≡ edges ++ rest self.new)
-            × AreSidesOf (contents_in self.old) (sides_in result) edges }
-        ensures end { sides_in result ≡ [] → rest self.old ≡ [] }
-        ensures least { steps.old + length (sides_in result) ≤ steps.new }
-        ensures free { sides_in result ≡ [] → steps.new ≡ steps.old }
+        ensures gives { (given : List ℤ) × (rest self.old ≡ given ++ rest self.new)
+            × AreRanksOf (names_in edges.now) (ranks_in result) given }
+        ensures end { ranks_in result ≡ [] → rest self.old ≡ [] }
+        ensures least { steps.old + length (ranks_in result) ≤ steps.new }
+        ensures free { ranks_in result ≡ [] → steps.new ≡ steps.old }
         ensures cost { steps.new ≤ steps.old
-            + (13 * line_digits (contents_in self.old) + 116) * length (sides_in result) }
+            + (13 * line_digits (contents_in self.old) + 119) * length (ranks_in result) }
     {
-        let mut sides = EdgeSides::none();
-        while !sides.is_full() {
-            match self.side(steps) {
-                Some(side) => sides.push(side),
-                None => return sides,
+        let mut ranks = RankedEdges::none();
+        while !ranks.is_full() {
+            match self.ranked(edges, steps) {
+                Some(found) => ranks.push(found.1),
+                None => return ranks,
             }
         }
-        sides
+        ranks
     }
 
     /// The next signed edges, as many as are given at once, or fewer: none at the end alone.
@@ -319,7 +305,8 @@ impl<'a> OrbitWalk<'a> {
         ensures free { edges_in result ≡ [] → steps.new ≡ steps.old }
         ensures paid { steps.new + allowance self.new ≤ steps.old + allowance self.old }
     {
-        let sides = self.sides(steps);
-        positions::edges_on(self.served, sides.as_slice(), steps)
+        let edges = self.served.edges();
+        let ranks = self.several_ranked(edges, steps);
+        edges_of(edges, ranks.as_slice(), steps)
     }
 }

@@ -1,6 +1,6 @@
 //! Positions of the code: the signed edge of each, and the steps between them.
 
-ghost use Rattle.std.specs.Prelude.{ℕ, ℤ, List, ◌≡◌, ◌<◌, ◌≤◌, ◌+◌, ◌*◌, length, is_some, IfSome, if◌then◌else◌};
+ghost use Rattle.std.specs.Prelude.{ℕ, ◌≡◌, ◌<◌, ◌≤◌, ◌+◌, ◌*◌, length, is_some, IfSome, if◌then◌else◌};
 ghost use Rattle.code_laws.specs.Code.{is_first, mate, step};
 ghost use Rattle.code_laws.specs.Numbers.{edge_of, ring_of};
 ghost use Rattle.plane_model.specs.Answers.{has_signed_edge};
@@ -8,13 +8,8 @@ ghost use Rattle.file_laws.specs.MapOfFile.{signed_at, place_of_ring};
 ghost use Rattle.pemb_file.specs.Served.{contents_of_view};
 ghost use Rattle.navigate.specs.Beside.{place_across, IsSomeRing};
 ghost use Rattle.navigate.specs.Bound.{line_digits, served_map};
-ghost use Rattle.navigate.specs.Several.{edges_in};
-ghost use Rattle.navigate.specs.EdgeSides.{AreSidesOf, id_price};
-ghost use Rattle.navigate.specs.declared.several.TheConstants.{SEVERAL};
 
 use crate::directed::with_direction;
-use crate::edge_sides::EdgeSide;
-use crate::several::Several;
 use bit_words::Steps;
 use code_laws::RingNumber;
 use pemb_file::Served;
@@ -67,26 +62,6 @@ pub(crate) fn edge_with<C: Ledger>(
     let _count = edges.count();
     let id = edges.id_of(number, steps);
     with_direction(id, first == forward)
-}
-
-/// The signed edges at these sides. No read of an id waits for that of another.
-pub(crate) fn edges_on<C: Ledger>(
-    served: Served<'_>,
-    sides: &[EdgeSide],
-    steps: &mut Steps<C>,
-) -> Several
-    requires few { length sides.now ≤ SEVERAL }
-    requires sides { (edges : List ℤ) × AreSidesOf (contents_of_view served) sides.now edges }
-    ensures edges { (edges : List ℤ) → AreSidesOf (contents_of_view served.entry) sides.now edges
-        → edges_in result ≡ edges }
-    ensures grows { steps.old ≤ steps.new }
-    ensures cost { steps.new ≤ steps.old + id_price (contents_of_view served.entry) * length sides.now }
-{
-    let mut edges = Several::none();
-    for side in sides {
-        edges.push(edge_with(served, side.number as usize, side.is_first, steps));
-    }
-    edges
 }
 
 /// The signed edge of a position.

@@ -7,7 +7,7 @@ use crate::directed::with_direction;
 use topo_base::Signed;
 
 /// So many signed edges are given at once, where so many are left.
-pub const SEVERAL: usize = 8;
+pub const SEVERAL: usize = 16;
 
 /// Some signed edges, one after the other.
 #[derive(Clone, Copy)]

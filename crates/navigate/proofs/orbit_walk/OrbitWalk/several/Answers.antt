@@ -1,55 +1,65 @@
-use Rattle.std.proofs.Common.{◌≡◌, ◌≤◌, ◌+◌, ◌*◌, List, length, ap, sym, ◌∙◌, subst, arith}
-use Rattle.file_laws.specs.Contents.{Contents}
-use Rattle.pemb_file.specs.Served.{contents_of_view}
+use Rattle.std.proofs.Common.{◌≡◌, ◌≤◌, ◌+◌, ◌*◌, ℕ, List, length, ap, sym, ◌∙◌, subst, arith}
+use Rattle.std.proofs.Math.Nat.{mul-le-mul_left}
+use Rattle.bit_words.specs.Digits.{digits}
+use Rattle.id_names.specs.Views.{ids_of, names_in}
 use Rattle.navigate.specs.Bound.{line_digits}
 use Rattle.navigate.specs.OrbitWalk.{contents_in}
+use Rattle.navigate.specs.Ranked.{AreRanksOf}
+use Rattle.navigate.specs.RankedEdges.{ranks_in}
 use Rattle.navigate.specs.Several.{edges_in}
-use Rattle.navigate.specs.EdgeSides.{AreSidesOf, sides_in, id_price}
-use Rattle.navigate.specs.declared.edge_sides.EdgeSide.{EdgeSide}
-use Rattle.navigate.proofs.SideLaws.{sides_many, edges_none, allowance-several}
+use Rattle.navigate.specs.declared.ranked.RankedEdge.{RankedEdge}
+use Rattle.navigate.proofs.Facts.{digits_edges}
+use Rattle.navigate.proofs.RankLists.{ranks_many, edges_none, allowance-several}
 use Rattle.navigate.proofs.orbit_walk.OrbitWalk.several.Goals as goal
 
 pub returns-clause-end : goal.returns-clause-end
 returns-clause-end g c = λ e.
-    let m = contents_in c.args.self.now in
-    let s = c.sides-sides.ensures in
-    let edges = s.gives.0 in
-    let given = subst (λ (x : Contents). AreSidesOf x c.as_slice.result.now edges) (sym s.contents) (subst (λ (xs : List EdgeSide). AreSidesOf m xs edges) (sym c.as_slice.ensures.items) s.gives.2) in
-    let same : edges_in c.edges_on.result ≡ edges = c.edges_on.ensures.edges edges given in
-    s.end (edges_none m (sides_in c.sides-sides.result) edges (sym same ∙ e) s.gives.2)
+    let names = names_in c.edges-edges.result.now in
+    let s = c.several_ranked-ranks.ensures in
+    let ranks = ranks_in c.several_ranked-ranks.result in
+    let given = s.gives.0 in
+    let same : edges_in c.edges_of.result ≡ given = c.edges_of.ensures.edges given (subst (λ (xs : List RankedEdge). AreRanksOf names xs given) (sym c.as_slice.ensures.items) s.gives.2) in
+    s.end (edges_none names ranks given (sym same ∙ e) s.gives.2)
 
 pub returns-clause-least : goal.returns-clause-least
 returns-clause-least g c =
-    let m = contents_in c.args.self.now in
-    let s = c.sides-sides.ensures in
-    let edges = s.gives.0 in
-    let given = subst (λ (x : Contents). AreSidesOf x c.as_slice.result.now edges) (sym s.contents) (subst (λ (xs : List EdgeSide). AreSidesOf m xs edges) (sym c.as_slice.ensures.items) s.gives.2) in
-    let n : length (sides_in c.sides-sides.result) ≡ length (edges_in c.edges_on.result) = sides_many m (sides_in c.sides-sides.result) edges s.gives.2 ∙ ap length (sym (c.edges_on.ensures.edges edges given)) in
-    omega (arith, n, s.least, c.edges_on.ensures.grows)
+    let names = names_in c.edges-edges.result.now in
+    let s = c.several_ranked-ranks.ensures in
+    let ranks = ranks_in c.several_ranked-ranks.result in
+    let given = s.gives.0 in
+    let same : edges_in c.edges_of.result ≡ given = c.edges_of.ensures.edges given (subst (λ (xs : List RankedEdge). AreRanksOf names xs given) (sym c.as_slice.ensures.items) s.gives.2) in
+    let n : length ranks ≡ length (edges_in c.edges_of.result) = ranks_many names ranks given s.gives.2 ∙ ap length (sym same) in
+    omega (arith, n, s.least, c.edges_of.ensures.grows)
 
 pub returns-clause-free : goal.returns-clause-free
 returns-clause-free g c = λ e.
-    let m = contents_in c.args.self.now in
-    let s = c.sides-sides.ensures in
-    let edges = s.gives.0 in
-    let given = subst (λ (x : Contents). AreSidesOf x c.as_slice.result.now edges) (sym s.contents) (subst (λ (xs : List EdgeSide). AreSidesOf m xs edges) (sym c.as_slice.ensures.items) s.gives.2) in
-    let none = edges_none m (sides_in c.sides-sides.result) edges (sym (c.edges_on.ensures.edges edges given) ∙ e) s.gives.2 in
+    let names = names_in c.edges-edges.result.now in
+    let s = c.several_ranked-ranks.ensures in
+    let ranks = ranks_in c.several_ranked-ranks.result in
+    let given = s.gives.0 in
+    let same : edges_in c.edges_of.result ≡ given = c.edges_of.ensures.edges given (subst (λ (xs : List RankedEdge). AreRanksOf names xs given) (sym c.as_slice.ensures.items) s.gives.2) in
+    let none = edges_none names ranks given (sym same ∙ e) s.gives.2 in
     let n : length c.as_slice.result.now ≡ 0 = ap length (c.as_slice.ensures.items ∙ none) in
-    let cost = subst (λ k. c.edges_on.new.steps ≤ c.sides-sides.new.steps + id_price (contents_of_view c.sides-sides.new.self.served) * k) n c.edges_on.ensures.cost in
+    let cost = subst (λ k. c.edges_of.new.steps ≤ c.several_ranked-ranks.new.steps + (3 * digits (length (ids_of c.edges-edges.result.now) + 2) + 18) * k) n c.edges_of.ensures.cost in
     let read = s.free none in
-    omega (arith, read, cost, c.edges_on.ensures.grows)
+    omega (arith, read, cost, c.edges_of.ensures.grows)
 
 pub returns-clause-paid : goal.returns-clause-paid
 returns-clause-paid g c =
+    let names = names_in c.edges-edges.result.now in
     let m = contents_in c.args.self.now in
-    let s = c.sides-sides.ensures in
-    let edges = s.gives.0 in
+    let s = c.several_ranked-ranks.ensures in
+    let ranks = ranks_in c.several_ranked-ranks.result in
+    let given = s.gives.0 in
+    let n = length given in
     let l = line_digits m in
-    let n : length c.as_slice.result.now ≡ length edges = ap length c.as_slice.ensures.items ∙ sides_many m (sides_in c.sides-sides.result) edges s.gives.2 in
-    let ids : c.edges_on.new.steps ≤ c.sides-sides.new.steps + (3 * l + 21) * length edges
-    = subst (λ x. c.edges_on.new.steps ≤ c.sides-sides.new.steps + (3 * x + 21) * length edges) (ap line_digits s.contents)
-    (subst (λ k. c.edges_on.new.steps ≤ c.sides-sides.new.steps + id_price (contents_of_view c.sides-sides.new.self.served) * k) n c.edges_on.ensures.cost) in
-    let walked = subst (λ k. c.sides-sides.new.steps ≤ c.args.steps.now + (13 * l + 116) * k) (sides_many m (sides_in c.sides-sides.result) edges s.gives.2) s.cost in
-    let all : (13 * l + 116) * length edges + (3 * l + 21) * length edges + 21 * length edges ≡ (16 * l + 158) * length edges = omega arith in
-    let more = allowance-several c.args.self.now c.sides-sides.new.self edges s.contents s.gives.1 in
-    omega (arith, ids, walked, all, more)
+    let k = digits (length (ids_of c.edges-edges.result.now) + 2) in
+    let many = ranks_many names ranks given s.gives.2 in
+    let few : k ≤ l = let d = digits_edges m c.args.self.now.served.whole in let e = ap (λ (xs : List ℕ). digits (length xs + 2)) c.edges-edges.ensures in omega (arith, d, e) in
+    let each : n * (3 * k + 18) ≤ n * (3 * l + 18) = mul-le-mul_left n (omega (arith, few)) in
+    let ids : c.edges_of.new.steps ≤ c.several_ranked-ranks.new.steps + (3 * k + 18) * n
+    = subst (λ x. c.edges_of.new.steps ≤ c.several_ranked-ranks.new.steps + (3 * k + 18) * x) (ap length c.as_slice.ensures.items ∙ many) c.edges_of.ensures.cost in
+    let walked = subst (λ x. c.several_ranked-ranks.new.steps ≤ c.args.steps.now + (13 * l + 119) * x) many s.cost in
+    let all : (13 * l + 119) * n + n * (3 * l + 18) + 21 * n ≡ (16 * l + 158) * n = omega arith in
+    let more = allowance-several c.args.self.now c.several_ranked-ranks.new.self given s.contents s.gives.1 in
+    omega (arith, each, ids, walked, all, more)

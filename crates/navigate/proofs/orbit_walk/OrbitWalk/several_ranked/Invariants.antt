@@ -1,0 +1,20 @@
+use Rattle.std.proofs.Common.{ℤ, List, ◌≡◌, ◌≤◌, ◌+◌, ◌-◌, ◌*◌, ◌++◌, length}
+use Rattle.id_names.specs.Views.{names_in}
+use Rattle.navigate.specs.Bound.{line_digits}
+use Rattle.navigate.specs.OrbitWalk.{contents_in, rest}
+use Rattle.navigate.specs.Ranked.{AreRanksOf}
+use Rattle.navigate.specs.RankedEdges.{ranks_in}
+use Rattle.navigate.specs.declared.several.TheConstants.{SEVERAL}
+use Rattle.navigate.proofs.orbit_walk.OrbitWalk.several_ranked.Given as goal
+
+abbrev pub invariant-loop-self : goal.invariant-loop-self
+invariant-loop-self g l = record {
+  contents : contents_in l.self ≡ contents_in l.fn.self;
+  gives : (given : List ℤ) × (rest l.fn.self ≡ given ++ rest l.self) × AreRanksOf (names_in l.edges) (ranks_in l.ranks) given;
+  few : length (ranks_in l.ranks) ≤ SEVERAL;
+  least : l.fn.steps + length (ranks_in l.ranks) ≤ l.steps;
+  cost : l.steps ≤ l.fn.steps + (13 * line_digits (contents_in l.fn.self) + 119) * length (ranks_in l.ranks);
+}
+
+abbrev pub decreases-loop-self : goal.decreases-loop-self
+decreases-loop-self g l = SEVERAL - length (ranks_in l.ranks)

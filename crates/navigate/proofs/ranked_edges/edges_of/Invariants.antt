@@ -1,0 +1,14 @@
+use Rattle.std.proofs.Common.{ℤ, List, ◌≡◌, ◌≤◌, ◌+◌, ◌*◌, ◌++◌, drop, length}
+use Rattle.bit_words.specs.Digits.{digits}
+use Rattle.id_names.specs.Views.{ids_of, names_in}
+use Rattle.navigate.specs.Several.{edges_in}
+use Rattle.navigate.specs.Ranked.{AreRanksOf}
+use Rattle.navigate.proofs.ranked_edges.edges_of.Given as goal
+
+abbrev pub invariant-loop-ranked : goal.invariant-loop-ranked
+invariant-loop-ranked g l = record {
+  left : (ds : List ℤ) → AreRanksOf (names_in l.names) l.ranks ds → (es : List ℤ) × (ds ≡ edges_in l.edges ++ es) × AreRanksOf (names_in l.names) (drop l.ranked-index l.ranks) es;
+  count : length (edges_in l.edges) ≡ l.ranked-index;
+  grows : l.fn.steps ≤ l.steps;
+  cost : l.steps ≤ l.fn.steps + (3 * digits (length (ids_of l.names) + 2) + 18) * l.ranked-index;
+}
