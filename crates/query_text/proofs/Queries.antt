@@ -1,6 +1,6 @@
 -- What the pieces of a line spell.
 use Rattle.std.proofs.Common.{◌≡◌, ℕ, zero, suc, ◌<◌, ◌≤◌, Bool, true, false, List, [], ◌∷◌, Option, Some, None, refl, sym, ap, subst, ◌∙◌, arith, inl, inr, decimal, find, bytes_eq, codes, Bor}
-use Rattle.std.specs.Prelude.{ℤ, pos, negsuc, ◌==◌, option_map, option_and_then, slice_get, IfSome, IfNone, MatchOption}
+use Rattle.std.specs.Prelude.{ℤ, pos, negsuc, ◌==◌, option_map, option_and_then, slice_get, MatchOption}
 use Rattle.std.specs.Fmt.{signed_decimal}
 use Rattle.std.specs.Str.Parse.{AllDigits}
 use Rattle.std.proofs.lemmas.Bool.{cases_Bool}
@@ -162,14 +162,6 @@ faces_at face rest (first ∷ second ∷ more) is =
     nothing : (o : Option ℕ) → None ≡ option_and_then (λ f. option_map (script.Common f) None) o
     nothing None = refl
     nothing (Some f) = refl
-
-pub known_of : (word : List ℕ) (o : Option Form) → o ≡ find (λ form. bytes_eq word (word_of form)) all_forms → IfSome o (λ form. word ≡ word_of form)
-known_of word None e = tt
-known_of word (Some form) e = known word form (sym e)
-
-pub unknown_of : (word : List ℕ) (o : Option Form) → o ≡ find (λ form. bytes_eq word (word_of form)) all_forms → IfNone o ((pieces : List (List ℕ)) → query (word ∷ pieces) ≡ None)
-unknown_of word None e = unknown word (sym e)
-unknown_of word (Some form) e = tt
 
 -- two faces from the first piece and the rest
 pub two_faces_from : (face rest : List ℕ) → two_faces (face ∷ words rest) ≡ option_and_then (λ f. option_map (script.Common f) (id_number rest)) (id_number face)

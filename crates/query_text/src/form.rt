@@ -21,22 +21,6 @@ pub enum Form {
     Counts,
 }
 
-/// Each form once.
-const FORMS: [Form; 12] = [
-    Form::Node,
-    Form::Ring,
-    Form::Next,
-    Form::Ends,
-    Form::Sides,
-    Form::Face,
-    Form::Adjacent,
-    Form::Contains,
-    Form::Islands,
-    Form::Regions,
-    Form::Common,
-    Form::Counts,
-];
-
 impl Form {
     /// The word with which a query of this form begins.
     pub fn word(self) -> &'static [u8]
@@ -64,13 +48,20 @@ impl Form {
         ensures known { IfSome result (λ form. word.now ≡ word_of form) }
         ensures unknown { IfNone result ((pieces : List (List ℕ)) → query (word.now ∷ pieces) ≡ None) }
     {
-        find_word(&FORMS, word)
+        match word {
+            b"node" => Some(Form::Node),
+            b"ring" => Some(Form::Ring),
+            b"next" => Some(Form::Next),
+            b"ends" => Some(Form::Ends),
+            b"sides" => Some(Form::Sides),
+            b"face" => Some(Form::Face),
+            b"adjacent" => Some(Form::Adjacent),
+            b"contains" => Some(Form::Contains),
+            b"islands" => Some(Form::Islands),
+            b"regions" => Some(Form::Regions),
+            b"common" => Some(Form::Common),
+            b"counts" => Some(Form::Counts),
+            _ => None,
+        }
     }
-}
-
-/// The first of these forms whose queries begin with this word.
-fn find_word(forms: &[Form], word: &[u8]) -> Option<Form>
-    ensures { result ≡ find (λ form. bytes_eq word.now (word_of form)) forms.now }
-{
-    forms.iter().copied().find(|form| word == form.word())
 }
