@@ -119,15 +119,19 @@ fn image_parts(alloc: Global, tables: &Tables) -> Result<ImageParts, BuildFault>
 
 /// The image of the map of tables, or why there is none. Its bytes are a function of the map alone: tables with the
 /// same map give the same image, whatever the order of their rows, and so does a row for face 0.
-pub fn build(alloc: Global, tables: &Tables) -> Result<Vec<u8>, BuildFault>
-    requires in_range { IsTrue (is_in_range (rows_of tables.now)) }
-    ensures consistent { OnOk result (IsTrue (is_consistent (rows_of tables.now))) }
+pub fn build(alloc: Global, tables: Tables) -> Result<Vec<u8>, BuildFault>
+    requires in_range { IsTrue (is_in_range (rows_of tables)) }
+    ensures consistent { OnOk result (IsTrue (is_consistent (rows_of tables))) }
     ensures lawful { IfOk result (λ image. IsTrue (is_lawful image.items)) }
-    ensures stands { IfOk result (λ image. StandsFor image.items (rows_of tables.now)) }
-    ensures image { IfOk result (λ image. image.items ≡ image_of 2 (contents_of_map (map_of (rows_of tables.now)))) }
-    ensures refused { IfErr result (λ e. NamesFault e (first_fault (rows_of tables.now))) }
-    ensures exactly { is_none (first_fault (rows_of tables.now)) ≡ is_consistent (rows_of tables.now) }
+    ensures stands { IfOk result (λ image. StandsFor image.items (rows_of tables)) }
+    ensures image { IfOk result (λ image. image.items ≡ image_of 2 (contents_of_map (map_of (rows_of tables)))) }
+    ensures refused { IfErr result (λ e. NamesFault e (first_fault (rows_of tables))) }
+    ensures exactly { is_none (first_fault (rows_of tables)) ≡ is_consistent (rows_of tables) }
 {
-    let parts = image_parts(alloc, tables)?;
+    // The tables are given back before the image is written, so that both are never held at once.
+    let parts = {
+        let tables = tables;
+        image_parts(alloc, &tables)?
+    };
     Ok(write_image(alloc, &parts)?)
 }

@@ -40,8 +40,8 @@ const SIX_TRIANGLES: [Edge; 18] = [
 ];
 
 /// The image of these tables.
-fn built_of(alloc: Global, tables: &Tables) -> Result<Result<Vec<u8>, BuildFault>, Fail> {
-    within_limits(tables)?;
+fn built_of(alloc: Global, tables: Tables) -> Result<Result<Vec<u8>, BuildFault>, Fail> {
+    within_limits(&tables)?;
     Ok(build(alloc, tables))
 }
 
@@ -53,7 +53,7 @@ fn built(
     faces: &[IdNumber],
 ) -> Result<Result<Vec<u8>, BuildFault>, Fail> {
     let tables = tables(alloc, nodes, edges, faces)?;
-    built_of(alloc, &tables)
+    built_of(alloc, tables)
 }
 
 /// The image of a triangle with a closed edge and a node inside it, with these regions and members.
@@ -66,7 +66,7 @@ fn island_built(
     let [first, second, third] = TRIANGLE;
     let edges = [first, second, third, (4, (4, 4), (4, -4), (2, 1))];
     let tables = tables_with_regions(alloc, &nodes, &edges, &[1, 2], regions, members)?;
-    built_of(alloc, &tables)
+    built_of(alloc, tables)
 }
 
 /// The counts of a file, if it is lawful.
@@ -213,7 +213,7 @@ fn a_grid_of_a_hundred_thousand_edges_builds_and_opens(rt: HostRuntime) -> Resul
     let Ok(tables) = grid(alloc, 223) else {
         return Err(Fail::new("want of memory for the grid"));
     };
-    let Ok(image) = build(alloc, &tables) else {
+    let Ok(image) = build(alloc, tables) else {
         return Err(Fail::new("no image"));
     };
     let want = Counts {

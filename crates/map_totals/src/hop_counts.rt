@@ -104,7 +104,7 @@ fn first_wrong<C: Ledger>(
 #[test]
 fn moves_on_a_grid_go_by_rows_and_columns_or_round_it(rt: HostRuntime) -> Result<(), Fail> {
     let alloc = rt.alloc();
-    let (_edges, image) = grid_image(alloc, 30)?;
+    let image = grid_image(alloc, 30)?;
     assert_eq!(rt; first_wrong::<Brand>(alloc, &image, Blank::new(1))?, None);
     Ok(())
 }

@@ -2,7 +2,7 @@
 
 ghost use Rattle.std.specs.Prelude.{◌≡◌, ◌<◌};
 
-use crate::maps::grid_image;
+use crate::maps::{grid_edges, grid_image};
 use bit_words::Steps;
 use navigate::{node_walk, ring_walk};
 use pemb_file::{Served, open};
@@ -160,7 +160,8 @@ fn agree<C: Ledger>(alloc: Global, edges: &[EdgeRow], bytes: &[u8], blank: Blank
 #[test]
 fn walks_in_turn_over_a_hundred_thousand_edges(rt: HostRuntime) -> Result<(), Fail> {
     let alloc = rt.alloc();
-    let (edges, image) = grid_image(alloc, SIZE)?;
+    let edges = grid_edges(alloc, SIZE)?;
+    let image = grid_image(alloc, SIZE)?;
     assert_eq!(rt; edges.len(), 104_154);
     assert!(rt; agree::<Brand>(alloc, &edges, &image, Blank::new(1)));
     Ok(())

@@ -25,22 +25,33 @@ fn image_of(
         members: Vec::new(alloc),
     };
     within_limits(&tables)?;
-    match build(alloc, &tables) {
+    match build(alloc, tables) {
         Ok(image) => Ok(image),
         Err(_) => Err(Fail::new("no image")),
     }
 }
 
-/// The edges of a grid and its image.
-pub fn grid_image(alloc: Global, n: u32) -> Result<(Vec<EdgeRow>, Vec<u8>), Fail>
+/// The edges of a grid.
+pub fn grid_edges(alloc: Global, n: u32) -> Result<Vec<EdgeRow>, Fail>
+    requires some { 1 ≤ n }
+    requires size { n ≤ 1000 }
+{
+    match grid(alloc, n) {
+        Ok(tables) => Ok(tables.edges),
+        Err(_) => Err(Fail::new("want of memory for the grid")),
+    }
+}
+
+/// The image of a grid.
+pub fn grid_image(alloc: Global, n: u32) -> Result<Vec<u8>, Fail>
     requires some { 1 ≤ n }
     requires size { n ≤ 1000 }
 {
     let Ok(tables) = grid(alloc, n) else {
         return Err(Fail::new("want of memory for the grid"));
     };
-    match build(alloc, &tables) {
-        Ok(image) => Ok((tables.edges, image)),
+    match build(alloc, tables) {
+        Ok(image) => Ok(image),
         Err(_) => Err(Fail::new("no image")),
     }
 }

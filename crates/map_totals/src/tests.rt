@@ -53,7 +53,7 @@ fn a_triangle_has_six_ends_and_two_neighbours(rt: HostRuntime) -> Result<(), Fai
 #[test]
 fn small_grids_have_the_totals_worked_by_hand(rt: HostRuntime) -> Result<(), Fail> {
     let alloc = rt.alloc();
-    let (_edges, image) = grid_image(alloc, 1)?;
+    let image = grid_image(alloc, 1)?;
     let want = Totals {
         face: 8,
         node: 8,
@@ -63,7 +63,7 @@ fn small_grids_have_the_totals_worked_by_hand(rt: HostRuntime) -> Result<(), Fai
         totals_twice::<Brand>(alloc, &image, Blank::new(1)),
         Some((want, want))
     );
-    let (_edges, image) = grid_image(alloc, 4)?;
+    let image = grid_image(alloc, 4)?;
     let want = Totals {
         face: 84,
         node: 84,
@@ -82,7 +82,7 @@ fn small_grids_have_the_totals_worked_by_hand(rt: HostRuntime) -> Result<(), Fai
 #[test]
 fn a_grid_has_the_totals_of_its_size(rt: HostRuntime) -> Result<(), Fail> {
     let alloc = rt.alloc();
-    let (_edges, image) = grid_image(alloc, 30)?;
+    let image = grid_image(alloc, 30)?;
     let want = Totals {
         face: 2 * (2 * 30 * 31 + 128),
         node: 2 * (2 * 30 * 31 + 128),

@@ -285,7 +285,7 @@ pub fn load_image<H: Shelf>(alloc: Global, shelf: &mut H, dir: &str) -> Result<V
     ensures no_write_fault { H.write_faults shelf.new ≡ H.write_faults shelf.old }
 {
     let tables = load_tables(alloc, shelf, dir)?;
-    Ok(build(alloc, &tables)?)
+    Ok(build(alloc, tables)?)
 }
 
 /// The bytes of a built file.

@@ -33,7 +33,7 @@ pub fn grid_image(alloc: Global, size: u32) -> Result<Vec<u8>, LoadFault>
         Ok(tables) => tables,
         Err(_) => return Err(LoadFault::Memory),
     };
-    Ok(build(alloc, &tables)?)
+    Ok(build(alloc, tables)?)
 }
 
 /// The lines of a grid's size, counts and sums.
