@@ -16,6 +16,7 @@ pub mod TourThere
 pub mod OfMap
 pub mod Orders
 pub mod MadeOrders
+pub mod Filling
 pub mod ByNumber
 pub mod Sorted
 pub mod Standings

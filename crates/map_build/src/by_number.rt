@@ -1,4 +1,5 @@
-//! Lists by number, filled position by position of a walk. Positions of one number agree on what stands there.
+//! Lists by number, filled position by position of a walk. Positions of one number agree on what stands there, so an
+//! id is looked up only where none stands yet.
 
 ghost use Rattle.std.specs.Prelude.{◌≡◌, ◌≤◌, ◌*◌, ◌<◌, ◌-◌, ◌==◌, ◌%◌, ℕ, Bool, true, false, IfOk, List, length, slice_index, slice_index_or, nat_lt};
 ghost use Rattle.map_build.specs.ByNumber.{StandByNumber};
@@ -27,7 +28,10 @@ pub(crate) fn edge_ids(
 {
     let mut ids = vec![in alloc; 0; edges.len()]?;
     for p in 0..darts.len() {
-        ids[numbers[p] as usize] = edge_id(edges, darts[p]);
+        let number = numbers[p] as usize;
+        if ids[number] == 0 {
+            ids[number] = edge_id(edges, darts[p]);
+        }
     }
     Ok(ids)
 }
@@ -78,7 +82,10 @@ pub(crate) fn node_ids(
 {
     let mut ids = vec![in alloc; 0; count]?;
     for p in 0..darts.len() {
-        ids[numbers[p] as usize] = node_id(edges, darts[p]);
+        let number = numbers[p] as usize;
+        if ids[number] == 0 {
+            ids[number] = node_id(edges, darts[p]);
+        }
     }
     Ok(ids)
 }
@@ -104,7 +111,10 @@ pub(crate) fn face_ids(
     let mut ids = vec![in alloc; 0; count]?;
     for p in 0..darts.len() {
         if rings[p] > 0 {
-            ids[(rings[p] - 1) as usize] = face_id(edges, darts[p]);
+            let number = (rings[p] - 1) as usize;
+            if ids[number] == 0 {
+                ids[number] = face_id(edges, darts[p]);
+            }
         }
     }
     Ok(ids)
