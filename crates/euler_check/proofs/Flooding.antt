@@ -9,7 +9,7 @@ use Rattle.plane_model.specs.declared.rows.EdgeRow.{EdgeRow}
 use Rattle.plane_model.specs.Sets.{has, has_edge}
 use Rattle.plane_model.specs.PlaneMap.{turn}
 use Rattle.plane_model.specs.Component.{component}
-use Rattle.plane_model.proofs.SetLaws.{same_is, same_self, component-least, same_edges}
+use Rattle.plane_model.proofs.SetLaws.{same_is, same_self, component-least, same_edges, in_joined, joined_left, joined_right}
 use Rattle.plane_model.proofs.ComponentParts.{component_own, component-reverse, component-turn}
 use Rattle.plane_model.proofs.RotationOrbits.{turn_permutes}
 use Rattle.rotation_check.specs.Darts.{RotationRows, IsRotation, map_of_rotation, reverse_dart, signed_edge}
@@ -37,21 +37,6 @@ fewer (Some y ∷ xs) (suc i) x h none = fewer xs i x (omega arith) none
 pub work : List (Option ℕ) → List ℕ → ℕ
 work numbers waiting = 2 * unnumbered numbers + length waiting
 
-has_append : (xs ys : List ℕ) (x : ℕ) → has (xs ++ ys) x ≡ true → (has xs x ≡ true) ⊎ (has ys x ≡ true)
-has_append [] ys x h = inr h
-has_append (y ∷ xs) ys x h = elim (or_cases (x == y) (has (xs ++ ys) x) h) [
-  | inl here ↦ inl (or_left _ _ here)
-  | inr more ↦ elim (has_append xs ys x more) [ inl a ↦ inl (or_right _ _ a) | inr b ↦ inr b ]
-]
-
-in_append_left : (xs ys : List ℕ) (x : ℕ) → has xs x ≡ true → has (xs ++ ys) x ≡ true
-in_append_left [] ys x h = absurd (both_ways false refl h)
-in_append_left (y ∷ xs) ys x h = elim (or_cases (x == y) (has xs x) h) [ inl here ↦ or_left _ _ here | inr more ↦ or_right _ _ (in_append_left xs ys x more) ]
-
-in_append_right : (xs ys : List ℕ) (x : ℕ) → has ys x ≡ true → has (xs ++ ys) x ≡ true
-in_append_right [] ys x h = h
-in_append_right (y ∷ xs) ys x h = or_right (x == y) _ (in_append_right xs ys x h)
-
 only_one : (x y : ℕ) → has (y ∷ []) x ≡ true → x ≡ y
 only_one x y h = elim (or_cases (x == y) false h) [ inl here ↦ eqb-true x y here | inr none ↦ absurd (both_ways false refl none) ]
 
@@ -73,7 +58,7 @@ reach edges dart number old new before after h r = elim (is_option (number_at ol
       let is = r.reached none in
       let here : number_at new dart ≡ Some number = ap (λ xs. number_at xs dart) is.0 ∙ get_or-set_same old dart (Some number) None h in
       let same : (d : ℕ) → (d ≡ dart → ⊥) → number_at new d ≡ number_at old d = λ d ne. ap (λ xs. number_at xs d) is.0 ∙ get_or-set_other old dart d (Some number) None ne in
-      let last : has after dart ≡ true = subst (λ xs. has xs dart ≡ true) (sym is.1) (in_append_right before (dart ∷ []) dart (or_left _ _ (eq-eqb dart dart refl))) in
+      let last : has after dart ≡ true = subst (λ xs. has xs dart ≡ true) (sym is.1) (joined_right before (dart ∷ []) dart (or_left _ _ (eq-eqb dart dart refl))) in
       record {
         size = ap length is.0 ∙ length-set old dart (Some number);
         same = same;
@@ -82,8 +67,8 @@ reach edges dart number old new before after h r = elim (is_option (number_at ol
           | inr ne ↦ same d ne ∙ has_x
         ];
         now = λ either. here;
-        opens = λ d on. subst (λ xs. has xs d ≡ true) (sym is.1) (in_append_left before (dart ∷ []) d on);
-        opened = λ d on. elim (has_append before (dart ∷ []) d (subst (λ xs. has xs d ≡ true) is.1 on)) [ inl a ↦ inl a | inr b ↦ inr (only_one d dart b) ];
+        opens = λ d on. subst (λ xs. has xs d ≡ true) (sym is.1) (joined_left before (dart ∷ []) d on);
+        opened = λ d on. elim (in_joined before (dart ∷ []) d (subst (λ xs. has xs d ≡ true) is.1 on)) [ inl a ↦ inl a | inr b ↦ inr (only_one d dart b) ];
         fresh = λ d x has_x. elim (cases_eq d dart) [
           | inl e ↦ inr (subst (λ k. has after k ≡ true) (sym e) last)
           | inr ne ↦ inl (sym (same d ne) ∙ has_x)

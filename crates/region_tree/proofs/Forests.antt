@@ -19,6 +19,7 @@ use Rattle.plane_model.specs.Rotation.{is_face}
 use Rattle.plane_model.specs.Regions.{parent, parents, upward, is_region, is_region_or_none, is_region_forest}
 use Rattle.plane_model.proofs.FaultParts.{all_keys, has_key_at, none_is}
 use Rattle.plane_model.proofs.Lookups.{find_key}
+use Rattle.plane_model.proofs.SetLaws.{in_joined, joined_left, joined_right}
 use Rattle.plane_model.proofs.Sorting.{among}
 use Rattle.region_tree.proofs.SortedRows.{rising_apart}
 use Rattle.plane_model.proofs.Chains.{chain-whole}
@@ -87,31 +88,16 @@ region_forest t h =
     }
 
 -- ---- what flattened lists have, and when nothing stands twice in them
-has-append : (xs ys : List ℕ) (x : ℕ) → has (xs ++ ys) x ≡ true → (has xs x ≡ true) ⊎ (has ys x ≡ true)
-has-append [] ys x h = inr h
-has-append (y ∷ xs) ys x h = elim (or_cases (x == y) (has (xs ++ ys) x) h) [
-  | inl is ↦ inl (or_left _ _ is)
-  | inr more ↦ elim (has-append xs ys x more) [ inl a ↦ inl (or_right _ _ a) | inr b ↦ inr b ]
-]
-
-has-left : (xs ys : List ℕ) (x : ℕ) → has xs x ≡ true → has (xs ++ ys) x ≡ true
-has-left [] ys x h = absurd (both_ways false refl h)
-has-left (y ∷ xs) ys x h = elim (or_cases (x == y) (has xs x) h) [ inl is ↦ or_left _ _ is | inr more ↦ or_right _ _ (has-left xs ys x more) ]
-
-has-right : (xs ys : List ℕ) (x : ℕ) → has ys x ≡ true → has (xs ++ ys) x ≡ true
-has-right [] ys x h = h
-has-right (y ∷ xs) ys x h = or_right (x == y) _ (has-right xs ys x h)
-
 in_flat : (f : ℕ → List ℕ) (rs : List ℕ) (r x : ℕ) → has rs r ≡ true → has (f r) x ≡ true → has (flat_map f rs) x ≡ true
 in_flat f [] r x h k = absurd (both_ways false refl h)
 in_flat f (s ∷ rs) r x h k = elim (or_cases (r == s) (has rs r) h) [
-  | inl is ↦ has-left (f s) (flat_map f rs) x (subst (λ z. has (f z) x ≡ true) (eqb-true r s is) k)
-  | inr more ↦ has-right (f s) (flat_map f rs) x (in_flat f rs r x more k)
+  | inl is ↦ joined_left (f s) (flat_map f rs) x (subst (λ z. has (f z) x ≡ true) (eqb-true r s is) k)
+  | inr more ↦ joined_right (f s) (flat_map f rs) x (in_flat f rs r x more k)
 ]
 
 pub of_flat : (f : ℕ → List ℕ) (rs : List ℕ) (x : ℕ) → has (flat_map f rs) x ≡ true → (r : ℕ) × (has rs r ≡ true) × (has (f r) x ≡ true)
 of_flat f [] x h = absurd (both_ways false refl h)
-of_flat f (s ∷ rs) x h = elim (has-append (f s) (flat_map f rs) x h) [
+of_flat f (s ∷ rs) x h = elim (in_joined (f s) (flat_map f rs) x h) [
   | inl here ↦ (s, or_left _ _ (eq-eqb s s refl), here)
   | inr more ↦ let r = of_flat f rs x more in (r.0, or_right _ _ r.1, r.2)
 ]
@@ -120,7 +106,7 @@ apart-append : (xs ys : List ℕ) → is_distinct xs ≡ true → is_distinct ys
 apart-append [] ys a b differ = b
 apart-append (x ∷ xs) ys a b differ =
     let parts = and_parts (not (has xs x)) (is_distinct xs) a in
-    let none : has (xs ++ ys) x ≡ false = false_from_ne_true _ (λ h. elim (has-append xs ys x h) [
+    let none : has (xs ++ ys) x ≡ false = false_from_ne_true _ (λ h. elim (in_joined xs ys x h) [
       | inl l ↦ both_ways _ (not-true _ parts.0) l
       | inr r ↦ differ x (or_left _ _ (eq-eqb x x refl)) r
     ]) in
@@ -267,7 +253,7 @@ module _ (m : PlaneMap) (forest : IsRegionForest m) where
 
   one_deeper : (k : ℕ) (p x : ℕ) → has (preorder k (children m) (children m p)) x ≡ true → has (preorder (suc k) (children m) (p ∷ [])) x ≡ true
   unfolding nested
-  one_deeper k p x h = has-left (put p (preorder k (children m) (children m p))) [] x (or_right (x == p) _ h)
+  one_deeper k p x h = joined_left (put p (preorder k (children m) (children m p))) [] x (or_right (x == p) _ h)
 
   reached : (j k r x : ℕ) → has keys r ≡ true → (o : Option ℕ) → parent m r ≡ o → ancestor (parent m) j o ≡ None → has (preorder k (children m) (r ∷ [])) x ≡ true → has (preorder (j + k) (children m) (roots m)) x ≡ true
   reached j k r x there None e end h =
