@@ -6,6 +6,7 @@ use Rattle.id_names.specs.Inverse.{walk}
 use Rattle.id_names.specs.PartViews.{number_in}
 use Rattle.id_names.specs.declared.inverse.Inverse.{Inverse}
 use Rattle.id_names.specs.declared.searches.Search.{Search}
+use Rattle.id_names.specs.declared.searches.Searches.{Searches}
 use Rattle.id_names.specs.declared.searches.State.{State}
 use Rattle.id_names.specs.declared.searches.State.TheVariants.{UnderWay, Found, Missing}
 
@@ -28,7 +29,10 @@ found_within v tests s = comes_to s.state s.number (walk (fields_of v.places) (c
 abbrev pub jump_left : Search → ℕ
 jump_left s = if s.may_jump then 11 else 0
 
--- what the jumps of several may still cost
-abbrev pub jumps_left : List Search → ℕ
-jumps_left [] = 0
-jumps_left (s ∷ rest) = jump_left s + jumps_left rest
+-- what four searches come to by so many tests more
+abbrev pub each_within : Inverse → ℕ → Searches → List (Option ℕ)
+each_within v tests s = found_within v tests s.first ∷ found_within v tests s.second ∷ found_within v tests s.third ∷ found_within v tests s.fourth ∷ []
+
+-- what their jumps may still cost
+abbrev pub jumps_left : Searches → ℕ
+jumps_left s = jump_left s.first + jump_left s.second + jump_left s.third + jump_left s.fourth

@@ -3,7 +3,7 @@
 ghost use Rattle.std.specs.Prelude.{ℕ, ◌≡◌, ◌≤◌, ◌+◌, ◌*◌, map, length};
 ghost use Rattle.bit_words.specs.Digits.{digits};
 ghost use Rattle.bit_words.specs.PackedView.{fields_of};
-ghost use Rattle.id_names.specs.Searches.{number_for, found_within, jumps_left};
+ghost use Rattle.id_names.specs.Searches.{number_for};
 
 use crate::inverse::{Inverse, binary_digits};
 use bit_words::Steps;
@@ -97,17 +97,59 @@ impl Search {
     }
 }
 
-/// Goes one step on in each of four searches. They are changed in place at the one call of `step`, which is quicker than
-/// to hand each of them in and out.
-#[inline]
-fn step_each<C: Ledger>(searches: &mut [Search; 4], inverse: &Inverse<'_>, steps: &mut Steps<C>)
-    ensures found { (tests : ℕ) → map (found_within inverse.now tests) searches.new
-        ≡ map (found_within inverse.now (tests + 1)) searches.old }
-    ensures grows { steps.old ≤ steps.new }
-    ensures cost { steps.new + jumps_left searches.new ≤ steps.old + jumps_left searches.old + 12 }
-{
-    for search in searches.iter_mut() {
-        search.step(inverse, steps);
+/// Four searches side by side.
+#[derive(Clone, Copy)]
+struct Searches {
+    first: Search,
+    second: Search,
+    third: Search,
+    fourth: Search,
+}
+
+impl Searches {
+    ghost use Rattle.std.specs.Prelude.{ℕ, ◌≡◌, ◌≤◌, ◌+◌, map, length};
+    ghost use Rattle.bit_words.specs.PackedView.{fields_of};
+    ghost use Rattle.id_names.specs.Inverse.{stride};
+    ghost use Rattle.id_names.specs.Searches.{number_for, each_within, jumps_left};
+    ghost use Rattle.id_names.specs.declared.inverse.Inverse.{Inverse};
+
+    /// The searches for the numbers of four places, of which no step is taken.
+    fn begun(places: [Option<usize>; 4]) -> Searches
+        ensures found { (inverse : Inverse) → each_within inverse (stride (length (fields_of inverse.places)) + 1) result
+            ≡ map (number_for inverse) places }
+        ensures jumps { jumps_left result ≤ 44 }
+    {
+        Searches {
+            first: Search::begun(places[0]),
+            second: Search::begun(places[1]),
+            third: Search::begun(places[2]),
+            fourth: Search::begun(places[3]),
+        }
+    }
+
+    /// Goes one step on in each.
+    #[inline]
+    fn step<C: Ledger>(&mut self, inverse: &Inverse<'_>, steps: &mut Steps<C>)
+        ensures found { (tests : ℕ) → each_within inverse.now tests self.new ≡ each_within inverse.now (tests + 1) self.old }
+        ensures grows { steps.old ≤ steps.new }
+        ensures cost { steps.new + jumps_left self.new ≤ steps.old + jumps_left self.old + 12 }
+    {
+        self.first.step(inverse, steps);
+        self.second.step(inverse, steps);
+        self.third.step(inverse, steps);
+        self.fourth.step(inverse, steps);
+    }
+
+    /// What they have found, where no step is left to take.
+    fn found(&self) -> [Option<usize>; 4]
+        ensures { (inverse : Inverse) → result ≡ each_within inverse 0 self.now }
+    {
+        [
+            self.first.found(),
+            self.second.found(),
+            self.third.found(),
+            self.fourth.found(),
+        ]
     }
 }
 
@@ -121,21 +163,11 @@ fn follow_four<C: Ledger>(
     ensures grows { steps.old ≤ steps.new }
     ensures cost { steps.new ≤ steps.old + 12 * digits (length (fields_of inverse.now.places) + 2) + 56 }
 {
-    let mut searches = [
-        Search::begun(places[0]),
-        Search::begun(places[1]),
-        Search::begun(places[2]),
-        Search::begun(places[3]),
-    ];
+    let mut searches = Searches::begun(places);
     for _ in 0..binary_digits(inverse.places.count() + 2) + 1 {
-        step_each(&mut searches, inverse, steps);
+        searches.step(inverse, steps);
     }
-    [
-        searches[0].found(),
-        searches[1].found(),
-        searches[2].found(),
-        searches[3].found(),
-    ]
+    searches.found()
 }
 
 /// The numbers of four places, each where there is a place.
