@@ -1,8 +1,13 @@
 -- Darts that get their numbers part by part.
-use Rattle.std.specs.Prelude.{◌≡◌, ℕ, ◌+◌, ◌*◌, ◌<◌, ℤ, IsFalse, IsTrue, List, [], ◌∷◌, ◌++◌, length, Option, Some, None, slice_index_or, slice_set}
+use Rattle.std.specs.Prelude.{◌≡◌, ℕ, zero, suc, ◌+◌, ◌*◌, ◌<◌, ℤ, IsFalse, IsTrue, List, [], ◌∷◌, ◌++◌, length, Option, Some, None, slice_index_or, slice_set}
 use Rattle.plane_model.specs.declared.rows.EdgeRow.{EdgeRow}
 use Rattle.plane_model.specs.Sets.{has_edge}
 use Rattle.rotation_check.specs.Darts.{signed_edge}
+
+-- the number that an entry of a table stands for
+unfoldable pub number_in : ℕ → Option ℕ
+number_in zero = None
+number_in (suc number) = Some number
 
 -- the number of a dart that has one
 abbrev pub number_at : List (Option ℕ) → ℕ → Option ℕ

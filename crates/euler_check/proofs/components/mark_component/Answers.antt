@@ -8,7 +8,7 @@ use Rattle.euler_check.proofs.components.mark_component.Goals as goal
 pub loop-dart-init : goal.loop-dart-init
 loop-dart-init c =
     flooding_first c.args.rotation.now c.requires.rotation c.args.first c.args.number c.args.numbers.now c.requires.size c.requires.first c.requires.fresh c.reach.new.numbers c.reach.new.waiting.items
-    (subst (λ xs. IsReached c.args.first c.args.number c.args.numbers.now c.reach.new.numbers xs c.reach.new.waiting.items) c.new-waiting.ensures.items c.in_ok-reach.ensures)
+    (subst (λ xs. IsReached c.args.first c.args.number c.args.numbers.now c.reach.new.numbers xs c.reach.new.waiting.items) c.clear.ensures.items c.in_ok-reach.ensures)
 
 pub reach-requires-in-Some : goal.reach-requires-in-Some
 reach-requires-in-Some c =

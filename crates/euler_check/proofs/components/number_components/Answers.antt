@@ -1,65 +1,48 @@
-use Rattle.std.proofs.Common.{◌≡◌, ℕ, ◌+◌, ◌*◌, ◌<◌, ◌∙◌, sym, ap, subst, length, map, get_or, arith, None, Some}
-use Rattle.std.specs.Prelude.{not, unwrap_or}
-use Rattle.std.proofs.lemmas.List.{get_or_default, with_items_is}
+use Rattle.std.proofs.Common.{◌≡◌, ◌*◌, ◌<◌, ◌∙◌, sym, subst, length, arith}
 use Rattle.plane_model.specs.PlaneMap.{signed_edges}
 use Rattle.plane_model.specs.Component.{component}
 use Rattle.plane_model.proofs.ComponentParts.{component_partition}
 use Rattle.plane_model.proofs.RotationOrbits.{signed_apart}
-use Rattle.rotation_check.specs.Darts.{map_of_rotation, signed_edge}
+use Rattle.rotation_check.specs.Darts.{map_of_rotation}
 use Rattle.rotation_check.proofs.FirstIn.{not_some, is_its_value}
-use Rattle.euler_check.specs.Marks.{DartsGetNumber, FirstAreNumbered}
+use Rattle.euler_check.specs.Marks.{FirstAreNumbered, number_at}
 use Rattle.euler_check.proofs.Walking.{own_rows, there}
 use Rattle.euler_check.proofs.Numbered.{numbered_none, numbered_next, no_number, numbered_skip, numbers_are}
 use Rattle.euler_check.proofs.Counted.{as_many_components}
 use Rattle.euler_check.proofs.components.number_components.Goals as goal
-use Rattle.euler_check.proofs.components.number_components.Goals.{then-is_none+in_ok-mark_component, else-is_none}
+use Rattle.euler_check.proofs.components.number_components.Goals.{then-not-has+in_ok-mark_component, else-not-has}
 
 pub loop-dart-init : goal.loop-dart-init
 loop-dart-init c =
     let t = c.args.rotation.now in
     let is = c.edges-darts.ensures.rotation in
-    numbered_none t.edges (signed_edges (map_of_rotation t)) (component (map_of_rotation t)) (component_partition (own_rows t) is.rotation (signed_apart (map_of_rotation t) is.rotation)) (there t is) c.in_ok-numbers.numbers.items c.edges-darts.result c.edges-darts.ensures.edges c.in_ok-numbers.ensures
+    numbered_none t.edges (signed_edges (map_of_rotation t)) (component (map_of_rotation t)) (component_partition (own_rows t) is.rotation (signed_apart (map_of_rotation t) is.rotation)) (there t is) c.in_ok-numbers.numbers c.edges-darts.result c.edges-darts.ensures.edges c.in_ok-numbers.ensures
 
 pub loop-dart-preserved : goal.loop-dart-preserved
 loop-dart-preserved c =
     let t = c.args.rotation.now in
     let is = c.edges-darts.ensures.rotation in
-    let size = c.loop-dart.invariant.size in
     let lt : c.loop-dart.dart < 2 * length t.edges = (let a = c.edges-darts.ensures.edges in let b = c.loop-dart-test.true in omega arith) in
-    let read = c.index.ensures ∙ get_or_default c.loop-dart.numbers.items c.loop-dart.dart c.index.result.now None (omega arith) in
-    elim c.if-is_none.branch [
-      | then-is_none+in_ok-mark_component w ↦
-          let none = sym read ∙ not_some c.index.result.now (c.is_none.ensures ∙ ap not w.if-is_none.true) in
-          let next =
-          numbered_next t.edges (signed_edges (map_of_rotation t)) (component (map_of_rotation t)) (component_partition (own_rows t) is.rotation (signed_apart (map_of_rotation t) is.rotation)) (there t is) c.loop-dart.dart c.loop-dart.count c.loop-dart.numbers.items w.mark_component.new.numbers
-          lt c.loop-dart.invariant none
-          (subst (λ old. DartsGetNumber t.edges (component (map_of_rotation t) (signed_edge t.edges c.loop-dart.dart)) c.loop-dart.count old w.mark_component.new.numbers) w.deref_mut.ensures.value w.in_ok-mark_component.ensures) in
-          let items =
-          ap (λ v. v.items) w.numbers-is ∙ with_items_is c.loop-dart.numbers w.mark_component.new.numbers (w.in_ok-mark_component.ensures.size ∙ ap length w.deref_mut.ensures.value ∙ sym c.loop-dart.numbers.ok.0) in
-          subst (λ xs. FirstAreNumbered t.edges (component (map_of_rotation t)) (c.loop-dart.dart + 1) c.if-is_none.count xs) (sym items)
-          (subst (λ k. FirstAreNumbered t.edges (component (map_of_rotation t)) (c.loop-dart.dart + 1) k w.mark_component.new.numbers) (sym w.count-is) next)
-      | else-is_none w ↦
-          let some = is_its_value c.index.result.now (c.is_none.ensures ∙ ap not w.if-is_none.false) in
-          let next =
-          numbered_skip t.edges (signed_edges (map_of_rotation t)) (component (map_of_rotation t)) (component_partition (own_rows t) is.rotation (signed_apart (map_of_rotation t) is.rotation)) (there t is) c.loop-dart.dart c.loop-dart.count some.0 c.loop-dart.numbers.items c.loop-dart.invariant (sym read ∙ some.1) in
-          subst (λ v. FirstAreNumbered t.edges (component (map_of_rotation t)) (c.loop-dart.dart + 1) c.if-is_none.count v.items) (sym w.numbers-is)
-          (subst (λ k. FirstAreNumbered t.edges (component (map_of_rotation t)) (c.loop-dart.dart + 1) k c.loop-dart.numbers.items) (sym w.count-is) next)
+    elim c.if-not-has.branch [
+      | then-not-has+in_ok-mark_component w ↦
+          let none = not_some (number_at c.loop-dart.numbers c.loop-dart.dart) (sym c.has.ensures ∙ w.if-not-has.true) in
+          rw (w.numbers-is, w.count-is)
+          (numbered_next t.edges (signed_edges (map_of_rotation t)) (component (map_of_rotation t)) (component_partition (own_rows t) is.rotation (signed_apart (map_of_rotation t) is.rotation)) (there t is) c.loop-dart.dart c.loop-dart.count c.loop-dart.numbers w.mark_component.new.numbers
+          lt c.loop-dart.invariant none w.in_ok-mark_component.ensures)
+      | else-not-has w ↦
+          let some = is_its_value (number_at c.loop-dart.numbers c.loop-dart.dart) (sym c.has.ensures ∙ w.if-not-has.false) in
+          rw (w.numbers-is, w.count-is)
+          (numbered_skip t.edges (signed_edges (map_of_rotation t)) (component (map_of_rotation t)) (component_partition (own_rows t) is.rotation (signed_apart (map_of_rotation t) is.rotation)) (there t is) c.loop-dart.dart c.loop-dart.count some.0 c.loop-dart.numbers c.loop-dart.invariant some.1)
     ]
-
-pub all_numbers-requires : goal.all_numbers-requires
-all_numbers-requires c =
-    let size = c.loop-dart.invariant.size in
-    λ d h. subst (λ xs. (x : ℕ) × (get_or xs d None ≡ Some x)) (sym c.deref.ensures.value)
-    (c.loop-dart.invariant.done d (let a = c.edges-darts.ensures.edges in let b = c.loop-dart-test.false in let e = ap length c.deref.ensures.value in omega arith))
 
 pub returns-clause-numbers : goal.returns-clause-numbers
 returns-clause-numbers c =
     let t = c.args.rotation.now in
     let is = c.edges-darts.ensures.rotation in
     let all : c.loop-dart.dart ≡ 2 * length t.edges = (let a = c.edges-darts.ensures.edges in let b = c.loop-dart-test.false in let d = c.loop-dart.auto.dart-end in omega arith) in
-    numbers_are t.edges (signed_edges (map_of_rotation t)) (component (map_of_rotation t)) (component_partition (own_rows t) is.rotation (signed_apart (map_of_rotation t) is.rotation)) (there t is) c.loop-dart.count c.loop-dart.numbers.items
-    (subst (λ k. FirstAreNumbered t.edges (component (map_of_rotation t)) k c.loop-dart.count c.loop-dart.numbers.items) all c.loop-dart.invariant)
-    c.new.result c.new.ensures.count (c.new.ensures.of_darts ∙ c.in_ok-all_numbers.ensures ∙ ap (map (λ n. unwrap_or n 0)) c.deref.ensures.value)
+    numbers_are t.edges (signed_edges (map_of_rotation t)) (component (map_of_rotation t)) (component_partition (own_rows t) is.rotation (signed_apart (map_of_rotation t) is.rotation)) (there t is) c.loop-dart.count c.loop-dart.numbers
+    (subst (λ k. FirstAreNumbered t.edges (component (map_of_rotation t)) k c.loop-dart.count c.loop-dart.numbers) all c.loop-dart.invariant)
+    c.new.result c.new.ensures.count (c.new.ensures.of_darts ∙ c.or_zero.ensures)
 
 pub returns-clause-count : goal.returns-clause-count
 returns-clause-count c = as_many_components c.args.rotation.now c.edges-darts.ensures.rotation c.new.result (returns-clause-numbers c)
@@ -68,10 +51,7 @@ pub mark_component-requires-clause-fresh : goal.mark_component-requires-clause-f
 mark_component-requires-clause-fresh c =
     let t = c.args.rotation.now in
     let is = c.edges-darts.ensures.rotation in
-    let size = c.loop-dart.invariant.size in
     let lt : c.loop-dart.dart < 2 * length t.edges = (let a = c.edges-darts.ensures.edges in let b = c.loop-dart-test.true in omega arith) in
-    let read = c.index.ensures ∙ get_or_default c.loop-dart.numbers.items c.loop-dart.dart c.index.result.now None (omega arith) in
-    let none = sym read ∙ not_some c.index.result.now (c.is_none.ensures ∙ ap not c.if-is_none.true) in
-    λ d h on. ap (λ xs. get_or xs d None) c.deref_mut.ensures.value
-    ∙ no_number t.edges (signed_edges (map_of_rotation t)) (component (map_of_rotation t)) (component_partition (own_rows t) is.rotation (signed_apart (map_of_rotation t) is.rotation)) (there t is) c.loop-dart.dart c.loop-dart.count
-    c.loop-dart.numbers.items lt c.loop-dart.invariant none d h on
+    let none = not_some (number_at c.loop-dart.numbers c.loop-dart.dart) (sym c.has.ensures ∙ c.if-not-has.true) in
+    no_number t.edges (signed_edges (map_of_rotation t)) (component (map_of_rotation t)) (component_partition (own_rows t) is.rotation (signed_apart (map_of_rotation t) is.rotation)) (there t is) c.loop-dart.dart c.loop-dart.count
+    c.loop-dart.numbers lt c.loop-dart.invariant none
