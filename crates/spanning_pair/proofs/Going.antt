@@ -108,7 +108,7 @@ not_true : (b : Bool) → not b ≡ true → b ≡ false
 not_true true h = absurd (false≢true h)
 not_true false h = refl
 
-not_false : (b : Bool) → not b ≡ false → b ≡ true
+pub not_false : (b : Bool) → not b ≡ false → b ≡ true
 not_false true h = refl
 not_false false h = absurd (false≢true (sym h))
 
@@ -164,6 +164,10 @@ module _ (m : ℕ) (next node : ℕ → ℕ) (rot : IsDartSystem m next node) (s
       | inr e ↦ (z.0, z.1, z.2, e)
     ]
   ]
+
+  -- an edge that was seen was walked the other way, so the node at its other end was visited
+  pub head_visited : seen (d / 2) ≡ true → visited (node (reverse_dart d)) ≡ true
+  head_visited y = let s = seen_listed y in ap (λ e. visited (node e)) (sym s.3) ∙ g.flagged.visited_new s.0 s.1 s.2
 
   reverse_seen : (q : ℕ) → from ≤ q → q < n → dart q ≡ reverse_dart d → seen (d / 2) ≡ true
   reverse_seen q l h e = let k : dart q / 2 ≡ d / 2 = ap (λ v. v / 2) e ∙ reverse_half d in

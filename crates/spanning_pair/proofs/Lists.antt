@@ -1,6 +1,6 @@
 -- The walk so far, in lists.
 use Rattle.std.proofs.Common.{◌≡◌, ◌≢◌, ℕ, ◌+◌, ◌*◌, ◌/◌, ◌<◌, ◌≤◌, List, [], ◌∷◌, ◌++◌, length, Bool, true, false, cond, refl, sym, ◌∙◌, ap, inl, inr, arith, get_or-set_other, get_or-set_same, length-append}
-use Rattle.std.proofs.lemmas.List.{get_or_append_left, get_or_push}
+use Rattle.std.proofs.lemmas.List.{get_or_append_left, get_or_push, set-get_or}
 use Rattle.std.proofs.lemmas.Bool.{cases_eq}
 use Rattle.std.proofs.Math.ListN.{set, length-set}
 use Rattle.std.specs.Prelude.{not}
@@ -11,7 +11,7 @@ use Rattle.spanning_pair.specs.Tours.{number_at, flag_at, IsNumberedSystem, AreC
 use Rattle.spanning_pair.proofs.OtherDart.{reverse_below}
 use Rattle.spanning_pair.proofs.ByRule.{is_tree_walk}
 use Rattle.spanning_pair.proofs.Pigeon.{at_most_from}
-use Rattle.spanning_pair.proofs.Going.{Listed, Flagged, Going, going_same, going_more, follows_more, listed_more, flagged_more}
+use Rattle.spanning_pair.proofs.Going.{Listed, Flagged, Going, going_same, going_more, follows_more, listed_more, flagged_more, head_visited, not_false}
 
 -- lists that a loop has made longer
 pub record Longer (xs0 : List ℕ) (ts0 fs0 : List Bool) (xs : List ℕ) (ts fs : List Bool) : Type 0 where
@@ -78,6 +78,20 @@ walking_start m next node start xs ts fs seen known visited rot h tl fl sl kl =
         comes = λ p l e. absurd (omega arith);
       };
     }
+
+-- to write what stands there already changes nothing
+set_again : (bs : List Bool) (i : ℕ) (b : Bool) → flag_at bs i ≡ b → set bs i b ≡ bs
+set_again bs i b e = ap (set bs i) (sym e) ∙ set-get_or bs i false
+
+-- what is written only where the edge is new is as if it were written always
+set_where_new : (f : Bool) (bs : List Bool) (i : ℕ) (b c : Bool) → (f ≡ true → c ≡ b) → (f ≡ false → flag_at bs i ≡ b) → cond f (set bs i c) bs ≡ set bs i b
+set_where_new true bs i b c n s = ap (set bs i) (n refl)
+set_where_new false bs i b c n s = sym (set_again bs i b (s refl))
+
+-- and what stands there then
+flag_where_new : (f : Bool) (bs : List Bool) (i : ℕ) (c : Bool) → i < length bs → flag_at (cond f (set bs i c) bs) i ≡ cond f c (flag_at bs i)
+flag_where_new true bs i c l = get_or-set_same bs i c false l
+flag_where_new false bs i c l = refl
 
 module _ (m : ℕ) (next node : ℕ → ℕ) (start : ℕ) (xs0 : List ℕ) (ts0 fs0 : List Bool) (xs : List ℕ) (ts fs : List Bool) (d : ℕ)
     (seen0 visited0 seen known visited : List Bool)
@@ -167,6 +181,27 @@ module _ (m : ℕ) (next node : ℕ → ℕ) (start : ℕ) (xs0 : List ℕ) (ts0
         going = rw (grown xs d) g;
       }
 
+  old_seen : f ≡ false → flag_at seen (d / 2) ≡ true
+  old_seen o = not_false (flag_at seen (d / 2)) (sym is_new ∙ o)
+
+  old_head : f ≡ false → flag_at visited (node (reverse_dart d)) ≡ true
+  old_head o = head_visited m next node rot.rotation start (number_at (xs ++ d ∷ [])) (flag_at (ts ++ t ∷ [])) (flag_at (fs ++ f ∷ [])) (length xs0) (length xs) d
+      (flag_at seen0) (flag_at visited0) (flag_at seen) (flag_at known) (flag_at visited) before clean.seen_none clean.visited_none here_dart
+      (here_first ∙ is_new) tree_is (old_seen o)
+
+  pub seen_marked : cond f (set seen (d / 2) true) seen ≡ set seen (d / 2) true
+  seen_marked = set_where_new f seen (d / 2) true true (λ n. refl) old_seen
+
+  pub known_marked : cond f (set known (d / 2) (not (flag_at visited (node (reverse_dart d))))) known ≡ set known (d / 2) t
+  known_marked =
+      let head_new = not (flag_at visited (node (reverse_dart d))) in
+      set_where_new f known (d / 2) t head_new
+      (λ n. sym (is_tree ∙ ap (λ v. cond v head_new (flag_at known (d / 2))) n))
+      (λ o. sym (is_tree ∙ ap (λ v. cond v head_new (flag_at known (d / 2))) o))
+
+  pub visited_marked : cond f (set visited (node (reverse_dart d)) true) visited ≡ set visited (node (reverse_dart d)) true
+  visited_marked = set_where_new f visited (node (reverse_dart d)) true true (λ n. refl) old_head
+
   pub few : length xs < 2 * m + length xs0
   few =
       let e = grown xs d in
@@ -224,23 +259,29 @@ pub record Stepped (m : ℕ) (next node : ℕ → ℕ) (start : ℕ) (xs0 : List
   pub marks : d2 ≡ start → AreMarkedInComponent next node start seen0 visited0 seen2 visited2
 
 pub stepped : {m : ℕ} {next node : ℕ → ℕ} {start : ℕ} {xs0 : List ℕ} {ts0 fs0 : List Bool} {xs : List ℕ} {ts fs : List Bool} {d : ℕ}
-    {seen0 visited0 seen known visited : List Bool} (xs2 : List ℕ) (ts2 fs2 : List Bool) (edge head : ℕ) (t : Bool) (d2 : ℕ)
+    {seen0 visited0 seen known visited : List Bool} (xs2 : List ℕ) (ts2 fs2 seen2 known2 visited2 : List Bool) (f t : Bool) (d2 : ℕ)
     → IsNumberedSystem m (length visited0) next node → AreClean next node start seen0 visited0
     → Walking m next node start xs0 ts0 fs0 xs ts fs d seen0 visited0 seen known visited
-    → edge ≡ d / 2 → head ≡ node (reverse_dart d)
-    → t ≡ cond (not (flag_at seen edge)) (not (flag_at visited head)) (flag_at known edge)
+    → f ≡ not (flag_at seen (d / 2))
+    → seen2 ≡ cond f (set seen (d / 2) true) seen
+    → known2 ≡ cond f (set known (d / 2) (not (flag_at visited (node (reverse_dart d))))) known
+    → visited2 ≡ cond f (set visited (node (reverse_dart d)) true) visited
+    → t ≡ flag_at known2 (d / 2)
     → d2 ≡ after next t d
-    → xs2 ≡ xs ++ d ∷ [] → ts2 ≡ ts ++ t ∷ [] → fs2 ≡ fs ++ not (flag_at seen edge) ∷ []
-    → Stepped m next node start xs0 ts0 fs0 xs xs2 ts2 fs2 d2 seen0 visited0 (set seen edge true) (set known edge t) (set visited head true)
-stepped {m} {next} {node} {start} {xs0} {ts0} {fs0} {xs} {ts} {fs} {d} {seen0} {visited0} {seen} {known} {visited} xs2 ts2 fs2 edge head t d2 rot clean w ee eh et comes ex ets efs =
-    let et2 : t ≡ cond (not (flag_at seen (d / 2))) (not (flag_at visited (node (reverse_dart d)))) (flag_at known (d / 2)) =
-    et ∙ ap (λ e. cond (not (flag_at seen e)) (not (flag_at visited head)) (flag_at known e)) ee ∙ ap (λ v. cond (not (flag_at seen (d / 2))) (not (flag_at visited v)) (flag_at known (d / 2))) eh in
-    let efs2 : fs2 ≡ fs ++ not (flag_at seen (d / 2)) ∷ [] = efs ∙ ap (λ e. fs ++ not (flag_at seen e) ∷ []) ee in
-    let f : Bool = not (flag_at seen (d / 2)) in
-    rw (ex, ets, efs2, ee, eh) (record {
-      more = walking_more m next node start xs0 ts0 fs0 xs ts fs d seen0 visited0 seen known visited rot clean w t (not (flag_at seen (d / 2))) d2 refl et2 comes;
-      few = few m next node start xs0 ts0 fs0 xs ts fs d seen0 visited0 seen known visited rot clean w t (not (flag_at seen (d / 2))) d2 refl et2 comes;
+    → xs2 ≡ xs ++ d ∷ [] → ts2 ≡ ts ++ t ∷ [] → fs2 ≡ fs ++ f ∷ []
+    → Stepped m next node start xs0 ts0 fs0 xs xs2 ts2 fs2 d2 seen0 visited0 seen2 known2 visited2
+stepped {m} {next} {node} {start} {xs0} {ts0} {fs0} {xs} {ts} {fs} {d} {seen0} {visited0} {seen} {known} {visited} xs2 ts2 fs2 seen2 known2 visited2 f t d2
+    rot clean w is_new es ek ev et comes ex ets efs =
+    let head_new = not (flag_at visited (node (reverse_dart d))) in
+    let is_tree : t ≡ cond f head_new (flag_at known (d / 2)) = et ∙ ap (λ bs. flag_at bs (d / 2)) ek
+    ∙ flag_where_new f known (d / 2) head_new (omega (arith, w.going.current_below, w.known_len)) in
+    let es2 = es ∙ seen_marked m next node start xs0 ts0 fs0 xs ts fs d seen0 visited0 seen known visited rot clean w t f d2 is_new is_tree comes in
+    let ek2 = ek ∙ known_marked m next node start xs0 ts0 fs0 xs ts fs d seen0 visited0 seen known visited rot clean w t f d2 is_new is_tree comes in
+    let ev2 = ev ∙ visited_marked m next node start xs0 ts0 fs0 xs ts fs d seen0 visited0 seen known visited rot clean w t f d2 is_new is_tree comes in
+    rw (ex, ets, efs, es2, ek2, ev2) (record {
+      more = walking_more m next node start xs0 ts0 fs0 xs ts fs d seen0 visited0 seen known visited rot clean w t f d2 is_new is_tree comes;
+      few = few m next node start xs0 ts0 fs0 xs ts fs d seen0 visited0 seen known visited rot clean w t f d2 is_new is_tree comes;
       one_more = length-append xs (d ∷ []) ∙ omega arith;
-      done = walk_done m next node start xs0 ts0 fs0 xs ts fs d seen0 visited0 seen known visited rot clean w t (not (flag_at seen (d / 2))) d2 refl et2 comes;
-      marks = marks_done m next node start xs0 ts0 fs0 xs ts fs d seen0 visited0 seen known visited rot clean w t (not (flag_at seen (d / 2))) d2 refl et2 comes;
+      done = walk_done m next node start xs0 ts0 fs0 xs ts fs d seen0 visited0 seen known visited rot clean w t f d2 is_new is_tree comes;
+      marks = marks_done m next node start xs0 ts0 fs0 xs ts fs d seen0 visited0 seen known visited rot clean w t f d2 is_new is_tree comes;
     })

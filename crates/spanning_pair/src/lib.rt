@@ -1,7 +1,7 @@
 //! The walk round a spanning tree of each component of a rotation system.
 #![tactic(auto)]
 
-ghost use Rattle.std.specs.Prelude.{◌≡◌, ℕ, ◌+◌, ◌*◌, ◌/◌, ◌<◌, ◌≤◌, length, cond, not, IfOk, IfErr, OnOk, IsTrue, MatchOption, Bool};
+ghost use Rattle.std.specs.Prelude.{◌≡◌, ℕ, ◌+◌, ◌*◌, ◌/◌, ◌<◌, ◌≤◌, length, cond, not, true, slice_set, IfOk, IfErr, OnOk, IsTrue, MatchOption, Bool};
 ghost use Rattle.plane_model.specs.Component.{is_plane};
 ghost use Rattle.rotation_check.specs.Darts.{IsRotation, map_of_rotation};
 ghost use Rattle.spanning_pair.specs.Crossings.{ArePairs, OthersNest, IsFirstCrossing};
@@ -55,11 +55,36 @@ fn tail_row(rotation: &Rotation, dart: u32) -> u32
     rotation.node(dart)
 }
 
-/// Whether an edge is a tree edge: a new one is where its head was not visited.
-fn is_tree_edge(is_new: bool, head_visited: bool, known: bool) -> bool
-    ensures { result ≡ cond is_new (not head_visited) known }
+/// Marks the edge of a dart where it is new, with the node that the dart enters, and answers whether it was new. A new
+/// edge is a tree edge where that node was not visited. Nothing is written, and no node read, where the edge was seen.
+fn mark_new_edge(
+    rotation: &Rotation,
+    dart: u32,
+    seen: &mut [bool],
+    known: &mut [bool],
+    visited: &mut [bool],
+) -> bool
+    requires rotation { IsRotation rotation.now }
+    requires within { dart < 2 * length rotation.now.edges }
+    requires seen_len { length seen.old ≡ length rotation.now.edges }
+    requires known_len { length known.old ≡ length rotation.now.edges }
+    requires visited_len { length visited.old ≡ length rotation.now.nodes }
+    ensures new { result ≡ not (flag_at seen.old (dart / 2)) }
+    ensures seen { seen.new ≡ cond result (slice_set seen.old (dart / 2) true) seen.old }
+    ensures known { known.new ≡ cond result (slice_set known.old (dart / 2)
+        (not (flag_at visited.old (node_row rotation.now (reverse_dart dart))))) known.old }
+    ensures visited { visited.new ≡ cond result (slice_set visited.old (node_row rotation.now (reverse_dart dart)) true)
+        visited.old }
 {
-    if is_new { !head_visited } else { known }
+    let edge = (dart / 2) as usize;
+    if seen[edge] {
+        return false;
+    }
+    let head = head_row(rotation, dart) as usize;
+    seen[edge] = true;
+    known[edge] = !visited[head];
+    visited[head] = true;
+    true
 }
 
 /// The dart that comes after `dart` in the walk.
@@ -104,13 +129,8 @@ fn walk(
     visited[tail_row(rotation, start) as usize] = true;
     let mut current = start;
     'walk: loop {
-        let edge = (current / 2) as usize;
-        let head = head_row(rotation, current) as usize;
-        let is_new = !seen[edge];
-        let is_tree = is_tree_edge(is_new, visited[head], known[edge]);
-        seen[edge] = true;
-        known[edge] = is_tree;
-        visited[head] = true;
+        let is_new = mark_new_edge(rotation, current, seen, known, visited);
+        let is_tree = known[(current / 2) as usize];
         tour.darts.push(current)?;
         tour.tree.push(is_tree)?;
         tour.first.push(is_new)?;
