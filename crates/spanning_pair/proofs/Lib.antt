@@ -2,6 +2,7 @@ pub mod OtherDart
 pub mod ByRule
 pub mod Pigeon
 pub mod Going
+pub mod Marking
 pub mod Lists
 pub mod Components
 pub mod Computed

@@ -8,6 +8,9 @@ use Rattle.spanning_pair.specs.Darts.{reverse_dart}
 use Rattle.orbits.specs.Components.InComponent.{itself}
 use Rattle.spanning_pair.specs.Walks.{after}
 use Rattle.spanning_pair.specs.Tours.{number_at, flag_at, IsNumberedSystem, AreClean, AreMarkedInComponent, IsWalkAppended}
+use Rattle.spanning_pair.specs.declared.marks.EdgeMark.{EdgeMark}
+use Rattle.spanning_pair.specs.Marks.{mark_where, seen_in, trees_in}
+use Rattle.spanning_pair.proofs.Marking.{seen_marked, trees_marked}
 use Rattle.spanning_pair.proofs.OtherDart.{reverse_below}
 use Rattle.spanning_pair.proofs.ByRule.{is_tree_walk}
 use Rattle.spanning_pair.proofs.Pigeon.{at_most_from}
@@ -189,18 +192,18 @@ module _ (m : ℕ) (next node : ℕ → ℕ) (start : ℕ) (xs0 : List ℕ) (ts0
       (flag_at seen0) (flag_at visited0) (flag_at seen) (flag_at known) (flag_at visited) before clean.seen_none clean.visited_none here_dart
       (here_first ∙ is_new) tree_is (old_seen o)
 
-  pub seen_marked : cond f (set seen (d / 2) true) seen ≡ set seen (d / 2) true
-  seen_marked = set_where_new f seen (d / 2) true true (λ n. refl) old_seen
+  seen_as_set : cond f (set seen (d / 2) true) seen ≡ set seen (d / 2) true
+  seen_as_set = set_where_new f seen (d / 2) true true (λ n. refl) old_seen
 
-  pub known_marked : cond f (set known (d / 2) (not (flag_at visited (node (reverse_dart d))))) known ≡ set known (d / 2) t
-  known_marked =
+  known_as_set : cond f (set known (d / 2) (not (flag_at visited (node (reverse_dart d))))) known ≡ set known (d / 2) t
+  known_as_set =
       let head_new = not (flag_at visited (node (reverse_dart d))) in
       set_where_new f known (d / 2) t head_new
       (λ n. sym (is_tree ∙ ap (λ v. cond v head_new (flag_at known (d / 2))) n))
       (λ o. sym (is_tree ∙ ap (λ v. cond v head_new (flag_at known (d / 2))) o))
 
-  pub visited_marked : cond f (set visited (node (reverse_dart d)) true) visited ≡ set visited (node (reverse_dart d)) true
-  visited_marked = set_where_new f visited (node (reverse_dart d)) true true (λ n. refl) old_head
+  visited_as_set : cond f (set visited (node (reverse_dart d)) true) visited ≡ set visited (node (reverse_dart d)) true
+  visited_as_set = set_where_new f visited (node (reverse_dart d)) true true (λ n. refl) old_head
 
   pub few : length xs < 2 * m + length xs0
   few =
@@ -258,7 +261,7 @@ pub record Stepped (m : ℕ) (next node : ℕ → ℕ) (start : ℕ) (xs0 : List
   pub done : d2 ≡ start → IsWalkAppended next node start xs0 ts0 fs0 xs2 ts2 fs2
   pub marks : d2 ≡ start → AreMarkedInComponent next node start seen0 visited0 seen2 visited2
 
-pub stepped : {m : ℕ} {next node : ℕ → ℕ} {start : ℕ} {xs0 : List ℕ} {ts0 fs0 : List Bool} {xs : List ℕ} {ts fs : List Bool} {d : ℕ}
+stepped_lists : {m : ℕ} {next node : ℕ → ℕ} {start : ℕ} {xs0 : List ℕ} {ts0 fs0 : List Bool} {xs : List ℕ} {ts fs : List Bool} {d : ℕ}
     {seen0 visited0 seen known visited : List Bool} (xs2 : List ℕ) (ts2 fs2 seen2 known2 visited2 : List Bool) (f t : Bool) (d2 : ℕ)
     → IsNumberedSystem m (length visited0) next node → AreClean next node start seen0 visited0
     → Walking m next node start xs0 ts0 fs0 xs ts fs d seen0 visited0 seen known visited
@@ -270,14 +273,14 @@ pub stepped : {m : ℕ} {next node : ℕ → ℕ} {start : ℕ} {xs0 : List ℕ}
     → d2 ≡ after next t d
     → xs2 ≡ xs ++ d ∷ [] → ts2 ≡ ts ++ t ∷ [] → fs2 ≡ fs ++ f ∷ []
     → Stepped m next node start xs0 ts0 fs0 xs xs2 ts2 fs2 d2 seen0 visited0 seen2 known2 visited2
-stepped {m} {next} {node} {start} {xs0} {ts0} {fs0} {xs} {ts} {fs} {d} {seen0} {visited0} {seen} {known} {visited} xs2 ts2 fs2 seen2 known2 visited2 f t d2
+stepped_lists {m} {next} {node} {start} {xs0} {ts0} {fs0} {xs} {ts} {fs} {d} {seen0} {visited0} {seen} {known} {visited} xs2 ts2 fs2 seen2 known2 visited2 f t d2
     rot clean w is_new es ek ev et comes ex ets efs =
     let head_new = not (flag_at visited (node (reverse_dart d))) in
     let is_tree : t ≡ cond f head_new (flag_at known (d / 2)) = et ∙ ap (λ bs. flag_at bs (d / 2)) ek
     ∙ flag_where_new f known (d / 2) head_new (omega (arith, w.going.current_below, w.known_len)) in
-    let es2 = es ∙ seen_marked m next node start xs0 ts0 fs0 xs ts fs d seen0 visited0 seen known visited rot clean w t f d2 is_new is_tree comes in
-    let ek2 = ek ∙ known_marked m next node start xs0 ts0 fs0 xs ts fs d seen0 visited0 seen known visited rot clean w t f d2 is_new is_tree comes in
-    let ev2 = ev ∙ visited_marked m next node start xs0 ts0 fs0 xs ts fs d seen0 visited0 seen known visited rot clean w t f d2 is_new is_tree comes in
+    let es2 = es ∙ seen_as_set m next node start xs0 ts0 fs0 xs ts fs d seen0 visited0 seen known visited rot clean w t f d2 is_new is_tree comes in
+    let ek2 = ek ∙ known_as_set m next node start xs0 ts0 fs0 xs ts fs d seen0 visited0 seen known visited rot clean w t f d2 is_new is_tree comes in
+    let ev2 = ev ∙ visited_as_set m next node start xs0 ts0 fs0 xs ts fs d seen0 visited0 seen known visited rot clean w t f d2 is_new is_tree comes in
     rw (ex, ets, efs, es2, ek2, ev2) (record {
       more = walking_more m next node start xs0 ts0 fs0 xs ts fs d seen0 visited0 seen known visited rot clean w t f d2 is_new is_tree comes;
       few = few m next node start xs0 ts0 fs0 xs ts fs d seen0 visited0 seen known visited rot clean w t f d2 is_new is_tree comes;
@@ -285,3 +288,22 @@ stepped {m} {next} {node} {start} {xs0} {ts0} {fs0} {xs} {ts} {fs} {d} {seen0} {
       done = walk_done m next node start xs0 ts0 fs0 xs ts fs d seen0 visited0 seen known visited rot clean w t f d2 is_new is_tree comes;
       marks = marks_done m next node start xs0 ts0 fs0 xs ts fs d seen0 visited0 seen known visited rot clean w t f d2 is_new is_tree comes;
     })
+
+-- the same with the marks of the edges
+pub stepped : {m : ℕ} {next node : ℕ → ℕ} {start : ℕ} {xs0 : List ℕ} {ts0 fs0 : List Bool} {xs : List ℕ} {ts fs : List Bool} {d : ℕ}
+    {seen0 visited0 visited : List Bool} (marks : List EdgeMark)
+    (xs2 : List ℕ) (ts2 fs2 : List Bool) (marks2 : List EdgeMark) (visited2 : List Bool) (f t : Bool) (d2 : ℕ)
+    → IsNumberedSystem m (length visited0) next node → AreClean next node start seen0 visited0
+    → Walking m next node start xs0 ts0 fs0 xs ts fs d seen0 visited0 (seen_in marks) (trees_in marks) visited
+    → f ≡ not (flag_at (seen_in marks) (d / 2))
+    → marks2 ≡ cond f (set marks (d / 2) (mark_where (flag_at visited (node (reverse_dart d))))) marks
+    → visited2 ≡ cond f (set visited (node (reverse_dart d)) true) visited
+    → t ≡ flag_at (trees_in marks2) (d / 2)
+    → d2 ≡ after next t d
+    → xs2 ≡ xs ++ d ∷ [] → ts2 ≡ ts ++ t ∷ [] → fs2 ≡ fs ++ f ∷ []
+    → Stepped m next node start xs0 ts0 fs0 xs xs2 ts2 fs2 d2 seen0 visited0 (seen_in marks2) (trees_in marks2) visited2
+stepped {node = node} {d = d} {visited = visited} marks xs2 ts2 fs2 marks2 visited2 f t d2 rot clean w is_new em =
+    let head_visited_now = flag_at visited (node (reverse_dart d)) in
+    stepped_lists xs2 ts2 fs2 (seen_in marks2) (trees_in marks2) visited2 f t d2 rot clean w is_new
+    (ap seen_in em ∙ seen_marked f head_visited_now marks (d / 2))
+    (ap trees_in em ∙ trees_marked f head_visited_now marks (d / 2))

@@ -1,6 +1,6 @@
 -- The walks of the components so far.
 use Rattle.std.proofs.Common.{◌≡◌, ℕ, ◌+◌, ◌*◌, ◌/◌, ◌<◌, ◌≤◌, List, [], ◌∷◌, ◌++◌, length, Bool, true, false, refl, sym, ◌∙◌, ap, subst, inl, inr, arith, length-append}
-use Rattle.std.proofs.lemmas.List.{get_or_append_left, get_or_push, get_or-replicate, get_or_past}
+use Rattle.std.proofs.lemmas.List.{get_or_append_left, get_or_push, get_or-replicate, get_or_past, length-map}
 use Rattle.std.proofs.lemmas.List.Folds.{list_any_at}
 use Rattle.std.proofs.lemmas.Map.Steps.{le-length_from_below}
 use Rattle.std.proofs.lemmas.Bool.{cases_eq, cases_Bool, cases_lt, false≢true, eq-eqb}
@@ -8,7 +8,11 @@ use Rattle.std.proofs.Math.Dec.{eqb}
 use Rattle.std.proofs.Math.ListN.{replicate, length-replicate}
 use Rattle.spanning_pair.specs.Darts.{reverse_dart, InComponent}
 use Rattle.spanning_pair.specs.Walks.{after, IsTreeWalk}
+use Rattle.spanning_pair.specs.declared.marks.EdgeMark.{EdgeMark}
+use Rattle.spanning_pair.specs.declared.marks.EdgeMark.TheVariants.{New}
+use Rattle.spanning_pair.specs.Marks.{is_seen, is_tree, seen_in, trees_in}
 use Rattle.spanning_pair.specs.Tours.{number_at, flag_at, IsNumberedSystem, AreClean, AreMarkedInComponent, AreStarts, IsWalkAppended, IsTour}
+use Rattle.spanning_pair.proofs.Marking.{none_seen, no_trees}
 use Rattle.spanning_pair.proofs.Pigeon.{at_most_from}
 use Rattle.spanning_pair.proofs.Components.{component_below, component_meet, component_of_edge, component_of_node}
 
@@ -195,17 +199,24 @@ touring_done m nodes next node starts rot are xs ts fs ps seen known visited w =
       once = w.once;
     }
 
-pub touring_start : (m nodes : ℕ) (next node : ℕ → ℕ) (starts : List ℕ) (xs : List ℕ) (ts fs : List Bool) (ps : List ℕ) (seen known visited : List Bool)
-    → xs ≡ [] → ts ≡ [] → fs ≡ [] → ps ≡ 0 ∷ [] → length seen ≡ m → length known ≡ m → length visited ≡ nodes
-    → ((e : ℕ) → flag_at seen e ≡ false) → ((v : ℕ) → flag_at visited v ≡ false)
-    → Touring m nodes next node starts 0 xs ts fs ps seen known visited
-touring_start m nodes next node starts xs ts fs ps seen known visited ex et ef ep sl kl vl sn vn =
-    rw (ex, et, ef, ep) (record {
+pub flags_none : (n e : ℕ) → flag_at (replicate n false) e ≡ false
+flags_none n e = elim (cases_lt e n) [
+  | inl l ↦ get_or-replicate n e false false l
+  | inr l ↦ get_or_past (replicate n false) e false (simp length-replicate l)
+]
+
+pub touring_start : (m nodes : ℕ) (next node : ℕ → ℕ) (starts : List ℕ) (xs : List ℕ) (ts fs : List Bool) (ps : List ℕ) (marks : List EdgeMark) (visited : List Bool)
+    → xs ≡ [] → ts ≡ [] → fs ≡ [] → ps ≡ 0 ∷ [] → marks ≡ replicate m New → visited ≡ replicate nodes false
+    → Touring m nodes next node starts 0 xs ts fs ps (seen_in marks) (trees_in marks) visited
+touring_start m nodes next node starts xs ts fs ps marks visited ex et ef ep em ev =
+    let es : seen_in marks ≡ replicate m false = ap seen_in em ∙ none_seen m in
+    let ek : trees_in marks ≡ replicate m false = ap trees_in em ∙ no_trees m in
+    rw (ex, et, ef, ep, es, ek, ev) (record {
       tree_len = refl;
       first_len = refl;
-      seen_len = sl;
-      known_len = kl;
-      visited_len = vl;
+      seen_len = length-replicate m false;
+      known_len = length-replicate m false;
+      visited_len = length-replicate nodes false;
       places_len = refl;
       begins = refl;
       ends = refl;
@@ -213,32 +224,27 @@ touring_start m nodes next node starts xs ts fs ps seen known visited ex et ef e
       walks = λ i l. absurd (omega arith);
       once = λ p q l. absurd (omega arith);
       listed = λ p l. absurd (omega arith);
-      seen_by = λ e y. absurd (false≢true (sym (sn e) ∙ y));
-      visited_by = λ v y. absurd (false≢true (sym (vn v) ∙ y));
+      seen_by = λ e y. absurd (false≢true (sym (flags_none m e) ∙ y));
+      visited_by = λ v y. absurd (false≢true (sym (flags_none nodes v) ∙ y));
     })
 
-pub flags_none : (n e : ℕ) → flag_at (replicate n false) e ≡ false
-flags_none n e = elim (cases_lt e n) [
-  | inl l ↦ get_or-replicate n e false false l
-  | inr l ↦ get_or_past (replicate n false) e false (simp length-replicate l)
-]
-
-pub touring_step : {m nodes : ℕ} {next node : ℕ → ℕ} {starts : List ℕ} {k : ℕ} {xs : List ℕ} {ts fs : List Bool} {ps : List ℕ} {seen known visited : List Bool}
-    {xs2 : List ℕ} {ts2 fs2 : List Bool} (ps2 : List ℕ) (seen1 known1 visited1 seen2 known2 visited2 seen3 known3 visited3 : List Bool)
+pub touring_step : {m nodes : ℕ} {next node : ℕ → ℕ} {starts : List ℕ} {k : ℕ} {xs : List ℕ} {ts fs : List Bool} {ps : List ℕ} {marks : List EdgeMark} {visited : List Bool}
+    {xs2 : List ℕ} {ts2 fs2 : List Bool} (ps2 : List ℕ) (marks1 : List EdgeMark) (visited1 : List Bool) (marks2 : List EdgeMark) (visited2 : List Bool) (marks3 : List EdgeMark) (visited3 : List Bool)
     → IsNumberedSystem m nodes next node → AreStarts m next starts → k < length starts
-    → Touring m nodes next node starts k xs ts fs ps seen known visited
-    → seen1 ≡ seen → known1 ≡ known → visited1 ≡ visited
+    → Touring m nodes next node starts k xs ts fs ps (seen_in marks) (trees_in marks) visited
+    → marks1 ≡ marks → visited1 ≡ visited
     → IsWalkAppended next node (number_at starts k) xs ts fs xs2 ts2 fs2
-    → AreMarkedInComponent next node (number_at starts k) seen1 visited1 seen2 visited2
-    → length seen2 ≡ length seen1 → length known2 ≡ length known1 → length visited2 ≡ length visited1
+    → AreMarkedInComponent next node (number_at starts k) (seen_in marks1) visited1 (seen_in marks2) visited2
+    → length marks2 ≡ length marks1 → length visited2 ≡ length visited1
     → ps2 ≡ ps ++ length xs2 ∷ []
-    → (length seen2 ≡ length seen1 → seen3 ≡ seen2) → (length known2 ≡ length known1 → known3 ≡ known2) → (length visited2 ≡ length visited1 → visited3 ≡ visited2)
-    → Touring m nodes next node starts (k + 1) xs2 ts2 fs2 ps2 seen3 known3 visited3
-touring_step {m} {nodes} {next} {node} {starts} {k} {xs} {ts} {fs} {ps} {seen} {known} {visited} {xs2} {ts2} {fs2}
-    ps2 seen1 known1 visited1 seen2 known2 visited2 seen3 known3 visited3 rot are h w es ek ev a b sl kl vl ep f g v =
-    let es3 : seen3 ≡ seen2 = f sl in
-    let ek3 : known3 ≡ known2 = g kl in
+    → (length marks2 ≡ length marks1 → marks3 ≡ marks2) → (length visited2 ≡ length visited1 → visited3 ≡ visited2)
+    → Touring m nodes next node starts (k + 1) xs2 ts2 fs2 ps2 (seen_in marks3) (trees_in marks3) visited3
+touring_step {m} {nodes} {next} {node} {starts} {k} {xs} {ts} {fs} {ps} {marks} {visited} {xs2} {ts2} {fs2}
+    ps2 marks1 visited1 marks2 visited2 marks3 visited3 rot are h w em ev a b ml vl ep f v =
+    let em3 : marks3 ≡ marks2 = f ml in
     let ev3 : visited3 ≡ visited2 = v vl in
-    let b2 = rw (es, ev) at b in
-    rw (ep, es3, ek3, ev3) (touring_more m nodes next node starts rot are k h xs ts fs ps seen known visited w xs2 ts2 fs2 seen2 known2 visited2 a b2
-    (sl ∙ ap length es) (kl ∙ ap length ek) (vl ∙ ap length ev))
+    let b2 = rw (em, ev) at b in
+    let l : length marks2 ≡ length marks = ml ∙ ap length em in
+    rw (ep, em3, ev3) (touring_more m nodes next node starts rot are k h xs ts fs ps (seen_in marks) (trees_in marks) visited w
+    xs2 ts2 fs2 (seen_in marks2) (trees_in marks2) visited2 a b2
+    (length-map marks2 is_seen ∙ l ∙ sym (length-map marks is_seen)) (length-map marks2 is_tree ∙ l ∙ sym (length-map marks is_tree)) (vl ∙ ap length ev))

@@ -8,15 +8,18 @@ ghost use Rattle.spanning_pair.specs.Crossings.{ArePairs, OthersNest, IsFirstCro
 ghost use Rattle.spanning_pair.specs.Darts.{reverse_dart};
 ghost use Rattle.spanning_pair.specs.Faults.{IsTourFault};
 ghost use Rattle.spanning_pair.specs.declared.TourFault.TheVariants as faults;
+ghost use Rattle.spanning_pair.specs.Marks.{seen_in, mark_where};
 ghost use Rattle.spanning_pair.specs.Rotations.{next_dart, node_row, AreComponentStarts};
 ghost use Rattle.spanning_pair.specs.Tours.{number_at, flag_at, AreClean, AreMarkedInComponent, IsNumberedSystem, IsWalkAppended, IsTour, IsTheTour};
 ghost use Rattle.spanning_pair.specs.Walks.{after};
 
+use marks::{EdgeMark, is_new_edge, is_tree_edge, new_edges};
 use rotation_check::{Rotation, reversed};
 use std::alloc::{AllocError, Global};
 use topo_base::IdNumber;
 
 pub mod laws;
+mod marks;
 #[cfg(test)]
 mod path_tests;
 mod places;
@@ -60,29 +63,29 @@ fn tail_row(rotation: &Rotation, dart: u32) -> u32
 fn mark_new_edge(
     rotation: &Rotation,
     dart: u32,
-    seen: &mut [bool],
-    known: &mut [bool],
+    marks: &mut [EdgeMark],
     visited: &mut [bool],
 ) -> bool
     requires rotation { IsRotation rotation.now }
     requires within { dart < 2 * length rotation.now.edges }
-    requires seen_len { length seen.old ≡ length rotation.now.edges }
-    requires known_len { length known.old ≡ length rotation.now.edges }
+    requires marks_len { length marks.old ≡ length rotation.now.edges }
     requires visited_len { length visited.old ≡ length rotation.now.nodes }
-    ensures new { result ≡ not (flag_at seen.old (dart / 2)) }
-    ensures seen { seen.new ≡ cond result (slice_set seen.old (dart / 2) true) seen.old }
-    ensures known { known.new ≡ cond result (slice_set known.old (dart / 2)
-        (not (flag_at visited.old (node_row rotation.now (reverse_dart dart))))) known.old }
+    ensures new { result ≡ not (flag_at (seen_in marks.old) (dart / 2)) }
+    ensures marks { marks.new ≡ cond result (slice_set marks.old (dart / 2)
+        (mark_where (flag_at visited.old (node_row rotation.now (reverse_dart dart))))) marks.old }
     ensures visited { visited.new ≡ cond result (slice_set visited.old (node_row rotation.now (reverse_dart dart)) true)
         visited.old }
 {
     let edge = (dart / 2) as usize;
-    if seen[edge] {
+    if !is_new_edge(marks, edge) {
         return false;
     }
     let head = head_row(rotation, dart) as usize;
-    seen[edge] = true;
-    known[edge] = !visited[head];
+    marks[edge] = if visited[head] {
+        EdgeMark::Other
+    } else {
+        EdgeMark::Tree
+    };
     visited[head] = true;
     true
 }
@@ -104,33 +107,31 @@ fn dart_after(rotation: &Rotation, is_tree: bool, dart: u32) -> u32
 fn walk(
     rotation: &Rotation,
     start: u32,
-    seen: &mut [bool],
-    known: &mut [bool],
+    marks: &mut [EdgeMark],
     visited: &mut [bool],
     tour: &mut Tour,
 ) -> Result<(), AllocError>
     requires rotation { IsRotation rotation.now }
-    requires system { IsNumberedSystem (length seen.old) (length visited.old) (next_dart rotation.now)
+    requires system { IsNumberedSystem (length marks.old) (length visited.old) (next_dart rotation.now)
         (node_row rotation.now) }
-    requires seen_len { length seen.old ≡ length rotation.now.edges }
+    requires marks_len { length marks.old ≡ length rotation.now.edges }
     requires visited_len { length visited.old ≡ length rotation.now.nodes }
-    requires known_len { length known.old ≡ length seen.old }
-    requires start_below { start < 2 * length seen.old }
+    requires start_below { start < 2 * length marks.old }
     requires tree_len { length tour.old.tree.items ≡ length tour.old.darts.items }
     requires first_len { length tour.old.first.items ≡ length tour.old.darts.items }
-    requires clean { AreClean (next_dart rotation.now) (node_row rotation.now) start seen.old visited.old }
+    requires clean { AreClean (next_dart rotation.now) (node_row rotation.now) start (seen_in marks.old) visited.old }
     ensures walk { OnOk result (IsWalkAppended (next_dart rotation.now)
         (node_row rotation.now) start tour.old.darts.items tour.old.tree.items tour.old.first.items tour.new.darts.items
         tour.new.tree.items tour.new.first.items) }
     ensures starts { OnOk result (tour.new.starts.items ≡ tour.old.starts.items) }
     ensures marks { OnOk result (AreMarkedInComponent (next_dart rotation.now)
-        (node_row rotation.now) start seen.old visited.old seen.new visited.new) }
+        (node_row rotation.now) start (seen_in marks.old) visited.old (seen_in marks.new) visited.new) }
 {
     visited[tail_row(rotation, start) as usize] = true;
     let mut current = start;
     'walk: loop {
-        let is_new = mark_new_edge(rotation, current, seen, known, visited);
-        let is_tree = known[(current / 2) as usize];
+        let is_new = mark_new_edge(rotation, current, marks, visited);
+        let is_tree = is_tree_edge(marks, (current / 2) as usize);
         tour.darts.push(current)?;
         tour.tree.push(is_tree)?;
         tour.first.push(is_new)?;
@@ -150,8 +151,7 @@ fn walks(alloc: Global, rotation: &Rotation, starts: &[u32]) -> Result<Tour, All
 {
     let edges = rotation.edges() as usize;
     let nodes = rotation.nodes() as usize;
-    let mut seen = vec![in alloc; false; edges]?;
-    let mut known = vec![in alloc; false; edges]?;
+    let mut marks = new_edges(alloc, edges)?;
     let mut visited = vec![in alloc; false; nodes]?;
     let mut tour = Tour {
         darts: Vec::new(alloc),
@@ -161,14 +161,7 @@ fn walks(alloc: Global, rotation: &Rotation, starts: &[u32]) -> Result<Tour, All
     };
     tour.starts.push(0)?;
     for start in starts {
-        walk(
-            rotation,
-            *start,
-            &mut seen,
-            &mut known,
-            &mut visited,
-            &mut tour,
-        )?;
+        walk(rotation, *start, &mut marks, &mut visited, &mut tour)?;
         let place = tour.darts.len() as u32;
         tour.starts.push(place)?;
     }
