@@ -32,60 +32,77 @@ impl<'a> Line<'a> {
         }
     }
 
-    /// What was read of a field that has to be there.
-    fn required<N: Copy>(&self, column: Column, number: Option<N>) -> Result<N, Refusal>
+    /// What was read of the field in a column, which has to be there.
+    fn required<N: Copy>(
+        &self,
+        column: Column,
+        text: &[u8],
+        number: Option<N>,
+    ) -> Result<N, Refusal>
+        requires { text.now ≡ field (line_of self.now) column }
         ensures { result ≡ required_value (table_of self.now) (line_of self.now) column number }
     {
         let table = self.header.table;
         let row = self.row;
-        if self.field(column).is_empty() {
+        if text.is_empty() {
             return Err(Refusal::EmptyNumber { table, row, column });
         }
         number.ok_or(Refusal::BadNumber { table, row, column })
     }
 
-    /// What was read of a field, or nothing where it is empty.
-    fn optional<N: Copy>(&self, column: Column, number: Option<N>) -> Result<Option<N>, Refusal>
+    /// What was read of the field in a column, or nothing where it is empty.
+    fn optional<N: Copy>(
+        &self,
+        column: Column,
+        text: &[u8],
+        number: Option<N>,
+    ) -> Result<Option<N>, Refusal>
+        requires { text.now ≡ field (line_of self.now) column }
         ensures { result ≡ optional_value (table_of self.now) (line_of self.now) column number }
     {
-        if self.field(column).is_empty() {
+        if text.is_empty() {
             return Ok(None);
         }
-        Ok(Some(self.required(column, number)?))
+        Ok(Some(self.required(column, text, number)?))
     }
 
     /// The number from 0 on in a column that may not be NULL.
     pub fn id(&self, column: Column) -> Result<IdNumber, Refusal>
         ensures { result ≡ required id_number (table_of self.now) (line_of self.now) column }
     {
-        self.required(column, read_id(self.field(column)))
+        let text = self.field(column);
+        self.required(column, text, read_id(text))
     }
 
     /// The same from 1 on.
     pub fn positive(&self, column: Column) -> Result<IdNumber, Refusal>
         ensures { result ≡ required positive_number (table_of self.now) (line_of self.now) column }
     {
-        self.required(column, read_positive(self.field(column)))
+        let text = self.field(column);
+        self.required(column, text, read_positive(text))
     }
 
     /// The same of a signed edge.
     pub fn signed(&self, column: Column) -> Result<SignedNumber, Refusal>
         ensures { result ≡ required signed_number (table_of self.now) (line_of self.now) column }
     {
-        self.required(column, read_signed(self.field(column)))
+        let text = self.field(column);
+        self.required(column, text, read_signed(text))
     }
 
     /// The number from 0 on in a column that may be NULL.
     pub fn optional_id(&self, column: Column) -> Result<Option<IdNumber>, Refusal>
         ensures { result ≡ optional id_number (table_of self.now) (line_of self.now) column }
     {
-        self.optional(column, read_id(self.field(column)))
+        let text = self.field(column);
+        self.optional(column, text, read_id(text))
     }
 
     /// The same from 1 on.
     pub fn optional_positive(&self, column: Column) -> Result<Option<IdNumber>, Refusal>
         ensures { result ≡ optional positive_number (table_of self.now) (line_of self.now) column }
     {
-        self.optional(column, read_positive(self.field(column)))
+        let text = self.field(column);
+        self.optional(column, text, read_positive(text))
     }
 }
