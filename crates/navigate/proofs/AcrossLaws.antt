@@ -19,7 +19,7 @@ use Rattle.file_laws.proofs.Agreement.{agrees}
 use Rattle.file_laws.proofs.Rotation.{ring_place}
 use Rattle.navigate.specs.Bound.{map_with, line_digits, line_words}
 use Rattle.navigate.specs.Beside.{place_across, others, adjacent_places}
-use Rattle.navigate.specs.OrbitWalk.{price}
+use Rattle.navigate.specs.OrbitWalk.{rank_price}
 use Rattle.navigate.specs.FaceWalk.{pass_price}
 use Rattle.navigate.specs.AdjacentWalk.{step_price}
 use Rattle.navigate.proofs.Facts.{w, sound_code}
@@ -110,7 +110,7 @@ module _ (c : Contents) (h : is_whole c ≡ true) where
   no_positions (p ∷ ps) within e = let l = own p ps within in absurd (omega (arith, l, e))
 
   -- a look-up of a name, of the shell and of the holes, a search, a walk and a close
-  adjacent_fits : (ps : List ℕ) (listed : ℕ) → ((x : ℕ) → has ps x ≡ true → x < length c.code.a) → 39 * line_digits c + 213 + (63 * line_digits c + 566) * length ps ≤ line_words c (length ps) listed
+  adjacent_fits : (ps : List ℕ) (listed : ℕ) → ((x : ℕ) → has ps x ≡ true → x < length c.code.a) → 34 * line_digits c + 205 + (55 * line_digits c + 512) * length ps ≤ line_words c (length ps) listed
   adjacent_fits ps listed within =
       let d = line_digits c in
       let two = some_digits c in
@@ -119,14 +119,14 @@ module _ (c : Contents) (h : is_whole c ≡ true) where
         | inr g ↦ alone d (length ps) listed two (no_positions ps within (no_edges g))
       ]
     where
-      many : (d n listed : ℕ) → 2 < d → 39 * d + 213 + (63 * d + 566) * n ≤ 256 * d * (n + listed + 1) + 128 * d
-      many d n listed b = let each : n * (63 * d + 566) ≤ n * (256 * d) = mul-le-mul_left n (omega (arith, b)) in omega (arith, each, b)
+      many : (d n listed : ℕ) → 2 < d → 34 * d + 205 + (55 * d + 512) * n ≤ 256 * d * (n + listed + 1) + 128 * d
+      many d n listed b = let each : n * (55 * d + 512) ≤ n * (256 * d) = mul-le-mul_left n (omega (arith, b)) in omega (arith, each, b)
 
-      alone : (d n listed : ℕ) → 2 ≤ d → n ≡ 0 → 39 * d + 213 + (63 * d + 566) * n ≤ 256 * d * (n + listed + 1) + 128 * d
+      alone : (d n listed : ℕ) → 2 ≤ d → n ≡ 0 → 34 * d + 205 + (55 * d + 512) * n ≤ 256 * d * (n + listed + 1) + 128 * d
       alone d n listed two e = rw e (omega (arith, two))
 
   pub adjacent_paid : (ps : List ℕ) (left listed first second third last : ℕ) → ((x : ℕ) → has ps x ≡ true → x < length c.code.a) → left ≤ length ps → second ≤ first + (12 * line_digits c + 60)
-      → third ≤ second + (14 * line_digits c + 30 + price c * length ps) → last + pass_price c * left ≤ third + (pass_price c * length ps + (13 * line_digits c + 123))
+      → third ≤ second + (10 * line_digits c + 24 + rank_price c * length ps) → last + pass_price c * left ≤ third + (pass_price c * length ps + (12 * line_digits c + 121))
       → last + (step_price c * left + pass_price c * length ps) ≤ first + line_words c (length ps) listed
   adjacent_paid ps left listed first second third last within l one two three =
       let d = line_digits c in

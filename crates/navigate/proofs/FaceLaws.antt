@@ -86,14 +86,14 @@ face_paid w d left first last e h =
 
 -- the price of going on and looking across, in either order
 pub face_passed_cost : (c : Contents) (xs ys : List ℕ) (p first second last bound : ℕ) → xs ≡ p ∷ ys → first + pass_price c * length xs ≤ bound
-    → second ≤ first + (13 * line_digits c + 123) → last ≤ second + (9 * line_digits c + 71) → last + pass_price c * length ys ≤ bound
+    → second ≤ first + (12 * line_digits c + 121) → last ≤ second + (8 * line_digits c + 66) → last + pass_price c * length ys ≤ bound
 face_passed_cost c xs ys p first second last bound e b h k =
     let more : pass_price c * suc (length ys) ≡ pass_price c * length ys + pass_price c = omega arith in
     let l : pass_price c * length xs ≡ pass_price c * length ys + pass_price c = ap (λ zs. pass_price c * length zs) e ∙ more in
     omega (arith, l, b, h, k)
 
 pub face_cleared_cost : (c : Contents) (xs ys : List ℕ) (p first second last bound : ℕ) → xs ≡ p ∷ ys → first + pass_price c * length xs ≤ bound
-    → second ≤ first + (9 * line_digits c + 71) → last ≤ second + (13 * line_digits c + 123) → last + pass_price c * length ys ≤ bound
+    → second ≤ first + (8 * line_digits c + 66) → last ≤ second + (12 * line_digits c + 121) → last + pass_price c * length ys ≤ bound
 face_cleared_cost c xs ys p first second last bound e b h k =
     let more : pass_price c * suc (length ys) ≡ pass_price c * length ys + pass_price c = omega arith in
     let l : pass_price c * length xs ≡ pass_price c * length ys + pass_price c = ap (λ zs. pass_price c * length zs) e ∙ more in

@@ -35,7 +35,7 @@ some_edges w p ps (d ∷ ds) left none = omega arith
 
 -- what they cost
 pub several_paid : (w : FaceWalk) (edges later : List ℤ) (ring : OrbitWalk) (first second last : ℕ) → orbits.contents_in ring ≡ orbits.contents_in w.ring → orbits.rest w.ring ≡ edges ++ orbits.rest ring
-    → rest w ≡ edges ++ later → 1 ≤ length edges → second + orbits.allowance ring ≤ first + orbits.allowance w.ring → last ≤ second + 6 → last + price (contents_in w) * length later ≤ first + allowance w
+    → rest w ≡ edges ++ later → 1 ≤ length edges → second + orbits.allowance ring ≤ first + orbits.allowance w.ring → last ≤ second + 2 → last + price (contents_in w) * length later ≤ first + allowance w
 unfolding allowance
 several_paid w edges later ring first second last same e f some paid more =
     let m = contents_in w in
@@ -44,5 +44,5 @@ several_paid w edges later ring first second last same e f some paid more =
     let given = allowance-several w.ring ring edges same e in
     let price_is = ap (λ x. orbits.price x * n) w.same in
     let all : price m * length (rest w) ≡ price m * n + price m * length later = ap (λ ds. price m * length ds) f ∙ ap (λ k. price m * k) (length-append edges later) ∙ omega arith in
-    let both : (16 * l + 158) * n + 6 * n ≡ (16 * l + 164) * n = omega arith in
+    let both : (15 * l + 136) * n + 2 * n ≡ (15 * l + 138) * n = omega arith in
     omega (arith, given, price_is, all, both, some, paid, more)

@@ -6,7 +6,7 @@ use Rattle.topo_base.specs.SignedEdge.{comes_before}
 use Rattle.file_laws.specs.Contents.{Contents}
 use Rattle.file_laws.specs.MapOfFile.{signed_at}
 use Rattle.navigate.specs.Least.{least}
-use Rattle.navigate.specs.OrbitWalk.{price}
+use Rattle.navigate.specs.OrbitWalk.{rank_price}
 
 -- none comes before itself
 least-own : (m : Contents) (p : ℕ) (qs : List ℕ) → least m p (p ∷ qs) ≡ least m p qs
@@ -38,11 +38,11 @@ least-left m p q xs qs d e x f g b h k =
     let one : least m p (q ∷ qs) ≡ least m p qs = ap (λ t. least m (if t then q else p) qs) test in
     sym one ∙ ap (least m p) (sym h) ∙ k
 
-pub paid-one : (m : Contents) (q : ℕ) (xs qs : List ℕ) (first last bound : ℕ) → xs ≡ q ∷ qs → first + price m * length xs ≤ bound
-    → last ≤ first + price m → last + price m * length qs ≤ bound
+pub paid-one : (m : Contents) (q : ℕ) (xs qs : List ℕ) (first last bound : ℕ) → xs ≡ q ∷ qs → first + rank_price m * length xs ≤ bound
+    → last ≤ first + rank_price m → last + rank_price m * length qs ≤ bound
 paid-one m q xs qs first last bound e b h =
-    let more : price m * suc (length qs) ≡ price m * length qs + price m = omega arith in
-    let l : price m * length xs ≡ price m * length qs + price m = ap (λ ys. price m * length ys) e ∙ more in
+    let more : rank_price m * suc (length qs) ≡ rank_price m * length qs + rank_price m = omega arith in
+    let l : rank_price m * length xs ≡ rank_price m * length qs + rank_price m = ap (λ ys. rank_price m * length ys) e ∙ more in
     omega (arith, l, b, h)
 
 -- the smallest is one of them

@@ -20,7 +20,7 @@ use Rattle.file_laws.specs.Contents.{Contents}
 use Rattle.file_laws.specs.MapOfFile.{signed_at}
 use Rattle.navigate.specs.Bound.{line_digits}
 use Rattle.navigate.specs.Least.{from_smallest, smallest_of}
-use Rattle.navigate.specs.OrbitWalk.{contents_in, rest, price, allowance}
+use Rattle.navigate.specs.OrbitWalk.{contents_in, rest, price, rank_price, allowance}
 use Rattle.navigate.specs.declared.orbit_walk.OrbitWalk.{OrbitWalk}
 use Rattle.navigate.proofs.Leasts.{least-among}
 
@@ -84,25 +84,26 @@ digits-two = refl
 pub some_digits : (m : Contents) → 2 ≤ line_digits m
 some_digits m = let more = digits-mono 2 (2 * length m.edges + length m.isolated + 2 * length m.regions + 2) (omega arith) in omega (arith, more, digits-two)
 
--- two reads of each of n signed edges
-pub twice_read : (d n : ℕ) → 1 ≤ d → (16 * d + 158) * n + (16 * d + 158) * n ≤ 512 * d * n
-twice_read d n l = let more : n * 1 ≤ n * d = mul-le-mul_left n l in omega (arith, more)
+-- the ranks and then the signed edges of n positions
+pub twice_read : (m : Contents) (n : ℕ) → (rank_price m + price m) * n ≤ 512 * line_digits m * n
+twice_read m n =
+    let two = some_digits m in
+    let more : n * 1 ≤ n * line_digits m = mul-le-mul_left n (omega (arith, two)) in
+    omega (arith, more)
 
 -- a walk from the smallest, made by one search
-pub making_paid : (w : OrbitWalk) (m : Contents) (n first last : ℕ) → contents_in w ≡ m → length (rest w) ≡ n → last ≤ first + price m * n
-    → last + allowance w ≤ first + 512 * line_digits m * length (rest w)
+pub making_paid : (w : OrbitWalk) (m : Contents) (n first last : ℕ) → contents_in w ≡ m → length (rest w) ≡ n → last ≤ first + rank_price m * n
+    → last + allowance w ≤ first + (rank_price m + price m) * length (rest w)
 unfolding allowance
 making_paid w m n first last same e h =
     let all : price (contents_in w) * length (rest w) ≡ price m * n = ap (λ x. price x * length (rest w)) same ∙ ap (λ x. price m * x) e in
-    let twice = (let two = some_digits m in twice_read (line_digits m) n (omega (arith, two))) in
-    let other : 512 * line_digits m * length (rest w) ≡ 512 * line_digits m * n = ap (λ x. 512 * line_digits m * x) e in
-    omega (arith, all, twice, other, h)
+    let other : (rank_price m + price m) * length (rest w) ≡ (rank_price m + price m) * n = ap (λ x. (rank_price m + price m) * x) e in
+    omega (arith, all, other, h)
 
 -- a walk that was made without a search
 pub walk_made : (w : OrbitWalk) (m : Contents) (first : ℕ) → contents_in w ≡ m → first + allowance w ≤ first + 512 * line_digits m * length (rest w)
 unfolding allowance
 walk_made w m first same =
     let all : price (contents_in w) * length (rest w) ≡ price m * length (rest w) = ap (λ x. price x * length (rest w)) same in
-    let two = some_digits m in
-    let twice = twice_read (line_digits m) (length (rest w)) (omega (arith, two)) in
+    let twice = twice_read m (length (rest w)) in
     omega (arith, all, twice)

@@ -43,13 +43,13 @@ shell_first c k s p same e =
 
 -- a search from p costs its orbit, which is as long as the walk
 pub searched : (c : Contents) (h : is_whole c ≡ true) (v : OrbitWalk) (kind : Bool) (p start first last : ℕ) → p < length c.code.a → start < length c.code.a → start ≡ smallest_of c kind p
-    → orbits.rest v ≡ map (signed_at c) (orbit c.code kind start) → last ≤ first + orbits.price c * length (orbit c.code kind p) → last ≤ first + orbits.price c * length (orbits.rest v)
+    → orbits.rest v ≡ map (signed_at c) (orbit c.code kind start) → last ≤ first + orbits.rank_price c * length (orbit c.code kind p) → last ≤ first + orbits.rank_price c * length (orbits.rest v)
 searched c h v kind p start first last l k is rest cost =
     let k' : smallest_of c kind p < length c.code.a = subst (λ x. x < length c.code.a) is k in
     let long : length (orbits.rest v) ≡ length (orbit c.code kind p)
     = ap length rest ∙ length-map (orbit c.code kind start) (signed_at c) ∙ ap (λ x. length (orbit c.code kind x)) is
     ∙ orbit-length c.code (sound_parts c.code (sound_code c h)) kind p (smallest_of c kind p) l k' (smallest-beside c (sound_code c h) kind p l) in
-    let same = ap (λ n. orbits.price c * n) long in
+    let same = ap (λ n. orbits.rank_price c * n) long in
     omega (arith, same, cost)
 
 module _ (c : Contents) (h : is_whole c ≡ true) where
@@ -85,16 +85,16 @@ module _ (c : Contents) (h : is_whole c ≡ true) where
       ∙ ap (λ xs. (if face_at_place c place == 0 then [] else ring_if_some (map_with c) (shell (map_with c) (face_at_place c place))) ++ xs) (outer_rings_at c h place hole end up l at)
 
   pub face_longer : (f : FaceWalk) (v : OrbitWalk) (rest : List ℕ) (first last : ℕ) → rings.contents_in f ≡ c → orbits.contents_in v ≡ c → rings.face_positions f ≡ orbits.positions_left v ++ rest
-      → last ≤ first + orbits.price c * length (orbits.rest v) → last ≤ first + orbits.price c * length (rings.rest f)
+      → last ≤ first + orbits.rank_price c * length (orbits.rest v) → last ≤ first + orbits.rank_price c * length (rings.rest f)
   face_longer f v rest first last same v_same positions cost =
       let n = ap length (rest-at v c (orbits.positions_left v) v_same refl) ∙ length-map (orbits.positions_left v) (signed_at c) in
       let k = ap length (rest-is f) ∙ length-map (rings.face_positions f) (signed_at (rings.contents_in f)) ∙ ap length positions ∙ length-append (orbits.positions_left v) rest in
-      let more : orbits.price c * length (orbits.rest v) ≤ orbits.price c * length (rings.rest f) = mul-le-mul_left (orbits.price c) (omega (arith, n, k)) in
+      let more : orbits.rank_price c * length (orbits.rest v) ≤ orbits.rank_price c * length (rings.rest f) = mul-le-mul_left (orbits.rank_price c) (omega (arith, n, k)) in
       omega (arith, more, cost)
 
 -- what a face's walk and its search read fits
 pub face_fits : (c : Contents) (f : FaceWalk) (first second last : ℕ) → rings.contents_in f ≡ c → second ≤ first + (12 * line_digits c + 60)
-    → last ≤ second + (14 * line_digits c + 30 + orbits.price c * length (rings.rest f)) → last + rings.allowance f ≤ first + line_words c (length (rings.rest f)) (length (rings.rest f))
+    → last ≤ second + (10 * line_digits c + 24 + orbits.rank_price c * length (rings.rest f)) → last + rings.allowance f ≤ first + line_words c (length (rings.rest f)) (length (rings.rest f))
 unfolding rings.allowance
 face_fits c f first second last same h k =
     let d = line_digits c in

@@ -149,8 +149,8 @@ given_across m f all count j h =
     filter-among (λ g. not (g == f)) (map (place_across m) all) j (occurrences-among [] (others f (map (place_across m) all)) j (take-among count (adjacent_places m f all) j h))
 
 -- the price of a step
-pub step_paid : (m : Contents) (xs mid left : List ℕ) (p first second third last : ℕ) → xs ≡ p ∷ mid → length left ≤ length mid → second ≤ first + (9 * line_digits m + 71) → third ≤ second + (3 * line_digits m + 20)
-    → last + pass_price m * length left ≤ third + (pass_price m * length mid + (13 * line_digits m + 123)) → last + step_price m * length left ≤ first + step_price m * length xs
+pub step_paid : (m : Contents) (xs mid left : List ℕ) (p first second third last : ℕ) → xs ≡ p ∷ mid → length left ≤ length mid → second ≤ first + (8 * line_digits m + 66) → third ≤ second + (3 * line_digits m + 20)
+    → last + pass_price m * length left ≤ third + (pass_price m * length mid + (12 * line_digits m + 121)) → last + step_price m * length left ≤ first + step_price m * length xs
 step_paid m xs mid left p first second third last e l h j k =
     let d = line_digits m in
     let long : length xs ≡ suc (length mid) = ap length e in

@@ -36,7 +36,7 @@ HoldsGiven w marks = (j : ℕ) → is_marked marks j ≡ has (given_places w) j
 
 -- what going on from a position, looking across the next edge and reading the id of a face cost at most
 abbrev pub step_price : Contents → ℕ
-step_price c = 25 * line_digits c + 214
+step_price c = 23 * line_digits c + 207
 
 -- how many words it still reads at most, to its end and in its close
 unfoldable pub allowance : AdjacentWalk → ℕ

@@ -22,7 +22,7 @@ rest w = map (signed_at (contents_in w)) (face_positions w)
 
 -- what going on, with the next hole, and reading a signed edge cost at most
 abbrev pub price : Contents → ℕ
-price c = 16 * line_digits c + 164
+price c = 15 * line_digits c + 138
 
 -- how many words it still reads at most
 unfoldable pub allowance : FaceWalk → ℕ
@@ -30,4 +30,4 @@ allowance w = price (contents_in w) * length (rest w)
 
 -- what looking across an edge and going on, with the next hole, cost at most
 abbrev pub pass_price : Contents → ℕ
-pass_price c = 22 * line_digits c + 194
+pass_price c = 20 * line_digits c + 187

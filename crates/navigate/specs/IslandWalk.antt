@@ -40,7 +40,7 @@ rest w = items_between (contents_in w) w.hole w.end w.node w.last
 
 -- what reading a component's start and its signed edge costs at most
 abbrev pub price : Contents → ℕ
-price c = 7 * line_digits c + 97
+price c = 7 * line_digits c + 84
 
 -- how many words it still reads at most
 unfoldable pub allowance : IslandWalk → ℕ

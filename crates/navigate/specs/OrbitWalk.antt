@@ -20,9 +20,13 @@ positions_left w = walk w.left (step (contents_in w).code w.kind) w.first w.at
 unfoldable pub rest : OrbitWalk → List ℤ
 rest w = map (signed_at (contents_in w)) (positions_left w)
 
+-- what finding the rank of a signed edge and going on cost at most
+abbrev pub rank_price : Contents → ℕ
+rank_price c = 12 * line_digits c + 118
+
 -- what reading a signed edge and going on cost at most
 abbrev pub price : Contents → ℕ
-price c = 16 * line_digits c + 158
+price c = 15 * line_digits c + 136
 
 -- how many words it still reads at most
 unfoldable pub allowance : OrbitWalk → ℕ

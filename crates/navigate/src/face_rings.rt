@@ -31,7 +31,7 @@ fn settle<'a, C: Ledger>(
         (components_between (contents_of_view served.entry) hole.old end) }
     ensures ready { orbits.positions_left ring.new ≡ [] → end ≤ hole.new }
     ensures grows { steps.old ≤ steps.new }
-    ensures cost { steps.new ≤ steps.old + 6 }
+    ensures cost { steps.new ≤ steps.old + 2 }
 {
     if *hole >= end {
         return;
@@ -85,7 +85,7 @@ impl<'a> FaceWalk<'a> {
             ++ outer_positions (contents_of_view served.entry)
             (components_between (contents_of_view served.entry) hole end) }
         ensures grows { steps.old ≤ steps.new }
-        ensures cost { steps.new ≤ steps.old + 6 }
+        ensures cost { steps.new ≤ steps.old + 2 }
     {
         let (mut ring, mut hole) = (ring, hole);
         settle(served, &mut ring, &mut hole, end, steps);
@@ -118,7 +118,7 @@ impl<'a> FaceWalk<'a> {
         ensures within { MatchOption result (face_positions self.new ≡ [])
             (λ p. p < length (contents_in self.old).code.a) }
         ensures cost { MatchOption result (steps.new ≡ steps.old) (λ _. (steps.old + 1 ≤ steps.new)
-            × (steps.new ≤ steps.old + (9 * line_digits (contents_in self.old) + 71))) }
+            × (steps.new ≤ steps.old + (8 * line_digits (contents_in self.old) + 66))) }
     {
         match self.ring.pass(steps) {
             Some(p) => {
@@ -135,7 +135,7 @@ impl<'a> FaceWalk<'a> {
         ensures place { result ≡ place_across (contents_in self.now) p }
         ensures within { result ≤ length (contents_in self.now).faces }
         ensures some_steps { steps.old + 1 ≤ steps.new }
-        ensures cost { steps.new ≤ steps.old + (13 * line_digits (contents_in self.now) + 123) }
+        ensures cost { steps.new ≤ steps.old + (12 * line_digits (contents_in self.now) + 121) }
     {
         positions::place_across(self.served, p, self.ring.component(), steps)
     }

@@ -31,8 +31,8 @@ pub fn rings_at<'a, C: Ledger>(
     ensures list { rest result ≡ face_edges (served_map served.entry)
         (face_at_place (contents_of_view served.entry) place) }
     ensures grows { steps.old ≤ steps.new }
-    ensures cost { steps.new ≤ steps.old + (14 * line_digits (contents_of_view served.entry) + 30
-        + orbits.price (contents_of_view served.entry) * length (rest result)) }
+    ensures cost { steps.new ≤ steps.old + (10 * line_digits (contents_of_view served.entry) + 24
+        + orbits.rank_price (contents_of_view served.entry) * length (rest result)) }
 {
     let hole = components_below(served, place, steps);
     let end = components_to(served, place, hole, steps);
@@ -53,7 +53,7 @@ fn shell_walk<'a, C: Ledger>(
         (face_at_place (contents_of_view served.entry) place))) }
     ensures grows { steps.old ≤ steps.new }
     ensures cost { steps.new ≤ steps.old + (6 * line_digits (contents_of_view served.entry) + 24
-        + orbits.price (contents_of_view served.entry) * length (orbits.rest result)) }
+        + orbits.rank_price (contents_of_view served.entry) * length (orbits.rest result)) }
 {
     if place == 0 {
         return OrbitWalk::over(served);

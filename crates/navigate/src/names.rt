@@ -69,7 +69,7 @@ pub fn node_left<C: Ledger>(served: Served<'_>, p: usize, steps: &mut Steps<C>) 
     requires { p < length (contents_of_view served).code.a }
     ensures node { result.0 ≡ node_at (contents_of_view served.entry) p }
     ensures some_steps { steps.old + 1 ≤ steps.new }
-    ensures cost { steps.new ≤ steps.old + (9 * line_digits (contents_of_view served.entry) + 80) }
+    ensures cost { steps.new ≤ steps.old + (8 * line_digits (contents_of_view served.entry) + 79) }
 {
     let code = served.code();
     let number = code.node_of(p, steps) as usize;
@@ -81,7 +81,7 @@ pub fn face_beside<C: Ledger>(served: Served<'_>, p: usize, steps: &mut Steps<C>
     requires { p < length (contents_of_view served).code.a }
     ensures face { result.0 ≡ face_at (contents_of_view served.entry) p }
     ensures some_steps { steps.old + 1 ≤ steps.new }
-    ensures cost { steps.new ≤ steps.old + (9 * line_digits (contents_of_view served.entry) + 82) }
+    ensures cost { steps.new ≤ steps.old + (8 * line_digits (contents_of_view served.entry) + 80) }
 {
     let place = place_beside(served, p, steps);
     face_in(served, place, steps)
@@ -92,7 +92,7 @@ pub fn node_reached<C: Ledger>(served: Served<'_>, p: usize, steps: &mut Steps<C
     requires { p < length (contents_of_view served).code.a }
     ensures node { result.0 ≡ node_at (contents_of_view served.entry) (mate (contents_of_view served.entry).code p) }
     ensures some_steps { steps.old + 1 ≤ steps.new }
-    ensures cost { steps.new ≤ steps.old + (16 * line_digits (contents_of_view served.entry) + 141) }
+    ensures cost { steps.new ≤ steps.old + (15 * line_digits (contents_of_view served.entry) + 140) }
 {
     let number = served.code().node_reached(p, steps) as usize;
     NodeId(served.nodes().id_of(number, steps))
@@ -103,7 +103,7 @@ pub fn face_across<C: Ledger>(served: Served<'_>, p: usize, steps: &mut Steps<C>
     requires { p < length (contents_of_view served).code.a }
     ensures face { result.0 ≡ face_at (contents_of_view served.entry) (mate (contents_of_view served.entry).code p) }
     ensures some_steps { steps.old + 1 ≤ steps.new }
-    ensures cost { steps.new ≤ steps.old + (16 * line_digits (contents_of_view served.entry) + 143) }
+    ensures cost { steps.new ≤ steps.old + (15 * line_digits (contents_of_view served.entry) + 141) }
 {
     let place = place_across(served, p, 0, steps);
     face_in(served, place, steps)
@@ -128,7 +128,7 @@ pub fn place_of_node<C: Ledger>(served: Served<'_>, number: usize, steps: &mut S
     ensures face { containing (served_map served.entry) (slice_index (contents_of_view served.entry).nodes number)
         ≡ Some (face_at_place (contents_of_view served.entry) result) }
     ensures some_steps { steps.old + 1 ≤ steps.new }
-    ensures cost { steps.new ≤ steps.old + (8 * line_digits (contents_of_view served.entry) + 28) }
+    ensures cost { steps.new ≤ steps.old + (7 * line_digits (contents_of_view served.entry) + 26) }
 {
     let code = served.code();
     let counts = served.counts();

@@ -52,7 +52,7 @@ impl<'a> OrbitWalk<'a> {
     ghost use Rattle.navigate.specs.Bound.{line_digits};
     ghost use Rattle.navigate.specs.KeptStops.{IsStop};
     ghost use Rattle.id_names.specs.Views.{ids_of, names_in};
-    ghost use Rattle.navigate.specs.OrbitWalk.{contents_in, positions_left, rest, price, allowance};
+    ghost use Rattle.navigate.specs.OrbitWalk.{contents_in, positions_left, rest, price, rank_price, allowance};
     ghost use Rattle.navigate.specs.Ranked.{IsRankOf, AreRanksOf};
     ghost use Rattle.navigate.specs.Several.{edges_in};
     ghost use Rattle.navigate.specs.RankedEdges.{ranks_in};
@@ -149,7 +149,7 @@ impl<'a> OrbitWalk<'a> {
         ensures step { result ≡ codes.step (contents_in self.old).code self.old.kind self.old.at }
         ensures within { result < length (contents_in self.old).code.a }
         ensures some_steps { steps.old + 1 ≤ steps.new }
-        ensures cost { steps.new ≤ steps.old + (9 * line_digits (contents_in self.old) + 65) }
+        ensures cost { steps.new ≤ steps.old + (8 * line_digits (contents_in self.old) + 64) }
     {
         let p = self.at;
         let code = self.served.code();
@@ -167,7 +167,7 @@ impl<'a> OrbitWalk<'a> {
         ensures within { MatchOption result (positions_left self.new ≡ [])
             (λ p. p < length (contents_in self.old).code.a) }
         ensures cost { MatchOption result (steps.new ≡ steps.old) (λ _. (steps.old + 1 ≤ steps.new)
-            × (steps.new ≤ steps.old + (9 * line_digits (contents_in self.old) + 65))) }
+            × (steps.new ≤ steps.old + (8 * line_digits (contents_in self.old) + 64))) }
     {
         if self.left == 0 {
             return None;
@@ -187,7 +187,7 @@ impl<'a> OrbitWalk<'a> {
         ensures kind { self.new.kind ≡ self.old.kind }
         ensures stop { IsStop (contents_in self.old).code self.old.kind self.old.at result }
         ensures some_steps { steps.old + 1 ≤ steps.new }
-        ensures cost { steps.new ≤ steps.old + (13 * line_digits (contents_in self.old) + 116) }
+        ensures cost { steps.new ≤ steps.old + (12 * line_digits (contents_in self.old) + 115) }
     {
         let p = self.at;
         let code = self.served.code();
@@ -243,7 +243,7 @@ impl<'a> OrbitWalk<'a> {
         ensures within { MatchOption result (positions_left self.new ≡ [])
             (λ found. found.0 < length (contents_in self.old).code.a) }
         ensures cost { MatchOption result (steps.new ≡ steps.old) (λ _. (steps.old + 1 ≤ steps.new)
-            × (steps.new ≤ steps.old + (13 * line_digits (contents_in self.old) + 119))) }
+            × (steps.new ≤ steps.old + rank_price (contents_in self.old))) }
     {
         if self.left == 0 {
             return None;
@@ -283,8 +283,7 @@ impl<'a> OrbitWalk<'a> {
         ensures end { ranks_in result ≡ [] → rest self.old ≡ [] }
         ensures least { steps.old + length (ranks_in result) ≤ steps.new }
         ensures free { ranks_in result ≡ [] → steps.new ≡ steps.old }
-        ensures cost { steps.new ≤ steps.old
-            + (13 * line_digits (contents_in self.old) + 119) * length (ranks_in result) }
+        ensures cost { steps.new ≤ steps.old + rank_price (contents_in self.old) * length (ranks_in result) }
     {
         let mut ranks = RankedEdges::none();
         while !ranks.is_full() {

@@ -5,7 +5,6 @@ ghost use Rattle.bit_words.specs.Digits.{digits};
 ghost use Rattle.code_laws.specs.Code.{start_of};
 ghost use Rattle.file_laws.specs.Contents.{component_count};
 ghost use Rattle.pemb_file.specs.Served.{contents_of_view};
-ghost use Rattle.navigate.specs.Bound.{line_digits};
 ghost use Rattle.navigate.specs.Holes.{place_at};
 
 use bit_words::Steps;
@@ -51,7 +50,7 @@ pub fn components_to<C: Ledger>(
     ensures from { (i : ℕ) → result ≤ i → i < length (contents_of_view served.entry).place_order
         → place + 1 ≤ place_at (contents_of_view served.entry) i }
     ensures grows { steps.old ≤ steps.new }
-    ensures cost { steps.new ≤ steps.old + 4 * line_digits (contents_of_view served.entry) }
+    ensures cost { steps.new ≤ steps.old + (2 * digits (component_count (contents_of_view served.entry)) + 2) }
 {
     if below == served.counts().components as usize {
         return below;
@@ -70,7 +69,7 @@ pub fn isolated_below<C: Ledger>(served: Served<'_>, place: usize, steps: &mut S
     ensures from { (i : ℕ) → result ≤ i → i < length (contents_of_view served.entry).isolated
         → place ≤ slice_index (contents_of_view served.entry).isolated i }
     ensures grows { steps.old ≤ steps.new }
-    ensures cost { steps.new ≤ steps.old + line_digits (contents_of_view served.entry) }
+    ensures cost { steps.new ≤ steps.old + digits (length (contents_of_view served.entry).isolated) }
 {
     let mut low = 0;
     let mut high = served.counts().isolated as usize;
@@ -100,7 +99,7 @@ pub fn isolated_to<C: Ledger>(
     ensures from { (i : ℕ) → result ≤ i → i < length (contents_of_view served.entry).isolated
         → place + 1 ≤ slice_index (contents_of_view served.entry).isolated i }
     ensures grows { steps.old ≤ steps.new }
-    ensures cost { steps.new ≤ steps.old + 4 * line_digits (contents_of_view served.entry) }
+    ensures cost { steps.new ≤ steps.old + (digits (length (contents_of_view served.entry).isolated) + 1) }
 {
     if below == served.counts().isolated as usize {
         return below;
@@ -119,7 +118,7 @@ pub fn start_at<C: Ledger>(served: Served<'_>, j: usize, steps: &mut Steps<C>) -
     ensures within { result.0 < length (contents_of_view served.entry).code.a }
     ensures component { result.1 ≡ slice_index (contents_of_view served.entry).place_order j }
     ensures some_steps { steps.old + 1 ≤ steps.new }
-    ensures cost { steps.new ≤ steps.old + 3 }
+    ensures cost { steps.new ≤ steps.old + 2 }
 {
     let code = served.code();
     let component = served.place_order(j, steps);

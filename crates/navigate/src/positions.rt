@@ -22,7 +22,7 @@ pub fn step_from<C: Ledger>(served: Served<'_>, kind: bool, p: usize, steps: &mu
     ensures step { result ≡ step (contents_of_view served.entry).code kind p }
     ensures within { result < length (contents_of_view served.entry).code.a }
     ensures some_steps { steps.old + 1 ≤ steps.new }
-    ensures cost { steps.new ≤ steps.old + (9 * line_digits (contents_of_view served.entry) + 65) }
+    ensures cost { steps.new ≤ steps.old + (8 * line_digits (contents_of_view served.entry) + 64) }
 {
     let code = served.code();
     if kind {
@@ -128,7 +128,7 @@ fn place_of_ring<C: Ledger>(served: Served<'_>, ring: RingNumber, steps: &mut St
     ensures place { result ≡ place_of_ring (contents_of_view served.entry) ring }
     ensures within { result ≤ length (contents_of_view served.entry).faces }
     ensures grows { steps.old ≤ steps.new }
-    ensures cost { steps.new ≤ steps.old + 2 }
+    ensures cost { steps.new ≤ steps.old + 1 }
 {
     match ring {
         RingNumber::Outer(component) => served.place(component as usize, steps) as usize,
@@ -143,7 +143,7 @@ pub fn place_beside<C: Ledger>(served: Served<'_>, p: usize, steps: &mut Steps<C
         (ring_of (contents_of_view served.entry).code p) }
     ensures within { result ≤ length (contents_of_view served.entry).faces }
     ensures some_steps { steps.old + 1 ≤ steps.new }
-    ensures cost { steps.new ≤ steps.old + (6 * line_digits (contents_of_view served.entry) + 62) }
+    ensures cost { steps.new ≤ steps.old + (5 * line_digits (contents_of_view served.entry) + 60) }
 {
     let ring = served.code().ring_of(p, steps);
     place_of_ring(served, ring, steps)
@@ -161,7 +161,7 @@ pub fn place_across<C: Ledger>(
     ensures place { result ≡ place_across (contents_of_view served.entry) p }
     ensures within { result ≤ length (contents_of_view served.entry).faces }
     ensures some_steps { steps.old + 1 ≤ steps.new }
-    ensures cost { steps.new ≤ steps.old + (13 * line_digits (contents_of_view served.entry) + 123) }
+    ensures cost { steps.new ≤ steps.old + (12 * line_digits (contents_of_view served.entry) + 121) }
 {
     let ring = served.code().ring_across(p, component, steps);
     place_of_ring(served, ring, steps)

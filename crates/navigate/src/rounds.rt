@@ -4,9 +4,9 @@ ghost use Rattle.std.specs.Prelude.{◌≡◌, ◌<◌, ◌≤◌, ◌+◌, ◌*
 ghost use Rattle.plane_model.specs.Answers.{has_node, has_signed_edge};
 ghost use Rattle.plane_model.specs.Lists.{node_edges, ring_edges};
 ghost use Rattle.pemb_file.specs.Served.{contents_of_view};
-ghost use Rattle.navigate.specs.Bound.{served_map, most_words, line_digits};
+ghost use Rattle.navigate.specs.Bound.{served_map, most_words};
 ghost use Rattle.navigate.specs.Least.{smallest_of, from_smallest};
-ghost use Rattle.navigate.specs.OrbitWalk.{contents_in, rest, allowance};
+ghost use Rattle.navigate.specs.OrbitWalk.{contents_in, rest, price, rank_price, allowance};
 
 use crate::orbit_walk::{NodeWalk, OrbitWalk, RingWalk};
 use crate::search::begun_at_smallest;
@@ -30,7 +30,8 @@ fn walk_from_smallest<'a, C: Ledger>(
         < length (contents_of_view served.entry).code.a }
     ensures grows { steps.old ≤ steps.new }
     ensures paid { steps.new + allowance result
-        ≤ steps.old + 512 * line_digits (contents_of_view served.entry) * length (rest result) }
+        ≤ steps.old + (rank_price (contents_of_view served.entry) + price (contents_of_view served.entry))
+        * length (rest result) }
 {
     begun_at_smallest(served, kind, p, steps)
 }

@@ -4,7 +4,7 @@ ghost use Rattle.std.specs.Prelude.{◌≡◌, ◌<◌, ◌≤◌, ◌+◌, ◌*
 ghost use Rattle.code_laws.specs.Orbits.{orbit};
 ghost use Rattle.pemb_file.specs.Served.{contents_of_view};
 ghost use Rattle.navigate.specs.Least.{smallest_of};
-ghost use Rattle.navigate.specs.OrbitWalk.{contents_in, positions_left, price};
+ghost use Rattle.navigate.specs.OrbitWalk.{contents_in, positions_left, rank_price};
 
 use crate::orbit_walk::OrbitWalk;
 use bit_words::Steps;
@@ -25,7 +25,7 @@ pub(crate) fn begun_at_smallest<'a, C: Ledger>(
     ensures within { smallest_of (contents_of_view served.entry) kind p
         < length (contents_of_view served.entry).code.a }
     ensures some_steps { steps.old + 1 ≤ steps.new }
-    ensures cost { steps.new ≤ steps.old + price (contents_of_view served.entry)
+    ensures cost { steps.new ≤ steps.old + rank_price (contents_of_view served.entry)
         * length (orbit (contents_of_view served.entry).code kind p) }
 {
     let edges = served.edges();

@@ -40,7 +40,7 @@ pub fn to_unseen<C: Ledger>(
     ensures grows { steps.old ≤ steps.new }
     ensures paid { steps.new + pass_price (contents_in ring.old) * length (face_positions ring.new)
         ≤ steps.old + (pass_price (contents_in ring.old) * length (face_positions ring.old)
-        + (13 * line_digits (contents_in ring.old) + 123)) }
+        + (12 * line_digits (contents_in ring.old) + 121)) }
 {
     while let Some(p) = ring.peek() {
         let across = ring.place_across(p, steps);
@@ -63,7 +63,7 @@ pub fn to_other<C: Ledger>(ring: &mut FaceWalk<'_>, place: usize, steps: &mut St
     ensures grows { steps.old ≤ steps.new }
     ensures paid { steps.new + pass_price (contents_in ring.old) * length (face_positions ring.new)
         ≤ steps.old + (pass_price (contents_in ring.old) * length (face_positions ring.old)
-        + (13 * line_digits (contents_in ring.old) + 123)) }
+        + (12 * line_digits (contents_in ring.old) + 121)) }
 {
     while let Some(p) = ring.peek() {
         let across = ring.place_across(p, steps);

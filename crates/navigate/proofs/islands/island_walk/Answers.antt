@@ -5,7 +5,7 @@ use Rattle.plane_model.specs.Lists.{holes, isolated_nodes}
 use Rattle.pemb_file.specs.Served.{contents_of_view}
 use Rattle.navigate.specs.Bound.{map_with}
 use Rattle.navigate.specs.IslandWalk.{rest}
-use Rattle.navigate.proofs.Facts.{digits_components, words_line}
+use Rattle.navigate.proofs.Facts.{digits_components, digits_isolated, words_line}
 use Rattle.navigate.proofs.OrbitLengths.{some_digits}
 use Rattle.navigate.proofs.IslandLaws.{islands_listed, islands_fit}
 use Rattle.navigate.proofs.islands.island_walk.Goals as goal
@@ -44,6 +44,7 @@ returns-clause-paid g c =
     let n = length (rest c.between.result) in
     let words = words_line m c.args.served.whole 0 n in
     let few = digits_components m c.args.served.whole in
+    let alone = digits_isolated m c.args.served.whole in
     let fits = islands_fit m c.between.result c.args.steps.now c.isolated_to-last.new.steps c.between.ensures.contents
-    (omega (arith, few, c.in-Some.ensures.cost, c.components_below-hole.ensures.cost, c.components_to-end.ensures.cost, c.isolated_below-node.ensures.cost, c.isolated_to-last.ensures.cost)) in
+    (omega (arith, few, alone, c.in-Some.ensures.cost, c.components_below-hole.ensures.cost, c.components_to-end.ensures.cost, c.isolated_below-node.ensures.cost, c.isolated_to-last.ensures.cost)) in
     omega (arith, words, fits)

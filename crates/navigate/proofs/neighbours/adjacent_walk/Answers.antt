@@ -9,7 +9,7 @@ use Rattle.pemb_file.specs.Served.{contents_of_view}
 use Rattle.navigate.specs.Bound.{map_with, line_digits, line_words, served_map, most_words}
 use Rattle.navigate.specs.Beside.{adjacent_places}
 use Rattle.navigate.specs.Standing.{IsStanding}
-use Rattle.navigate.specs.OrbitWalk.{price}
+use Rattle.navigate.specs.OrbitWalk.{rank_price}
 use Rattle.navigate.specs.FaceWalk as rings
 use Rattle.navigate.specs.FaceWalk.{contents_in, face_positions, pass_price}
 use Rattle.navigate.specs.AdjacentWalk.{rest, allowance, step_price}
@@ -64,9 +64,9 @@ returns-clause-paid g c =
     let within : (x : ℕ) → has ps x ≡ true → x < length m.code.a = λ x there. subst (λ (y : Contents). x < length y.code.a) first (face-in whole x there) in
     let gone : length (rings.rest whole) ≡ length ps = ap length (rest-is whole) ∙ length-map ps (signed_at (contents_in whole)) in
     let walked : n ≡ length ps = sym (ap length (c.rings_at-whole.ensures.list ∙ ap (face_edges (map_with m)) c.in-Some.ensures.found.1)) ∙ gone in
-    let search = ap (λ (x : ℕ). price m * x) gone in
-    let to : c.to_other-next.new.steps + pass_price m * length left ≤ c.rings_at-whole.new.steps + (pass_price m * length ps + (13 * line_digits m + 123))
-    = subst (λ (x : Contents). c.to_other-next.new.steps + pass_price x * length left ≤ c.rings_at-whole.new.steps + (pass_price x * length ps + (13 * line_digits x + 123))) first c.to_other-next.ensures.paid in
+    let search = ap (λ (x : ℕ). rank_price m * x) gone in
+    let to : c.to_other-next.new.steps + pass_price m * length left ≤ c.rings_at-whole.new.steps + (pass_price m * length ps + (12 * line_digits m + 121))
+    = subst (λ (x : Contents). c.to_other-next.new.steps + pass_price x * length left ≤ c.rings_at-whole.new.steps + (pass_price x * length ps + (12 * line_digits x + 121))) first c.to_other-next.ensures.paid in
     let fits = adjacent_paid m c.args.served.whole ps (length left) listed c.args.steps.now c.place_of.new.steps c.rings_at-whole.new.steps c.to_other-next.new.steps within c.to_other-next.ensures.shorter c.in-Some.ensures.cost
     (omega (arith, search, c.rings_at-whole.ensures.cost)) to in
     let allowed : allowance c.standing.result ≡ step_price m * length left + pass_price m * length ps = c.standing.ensures.paid ∙ ap (λ (x : Contents). step_price x * length left + pass_price x * length ps) at in

@@ -1,8 +1,6 @@
 use Rattle.std.proofs.Common.{arith, ◌∙◌, ap}
 use Rattle.std.specs.Prelude.{slice_index}
 use Rattle.pemb_file.specs.Served.{contents_of_view}
-use Rattle.navigate.proofs.Facts.{digits_components}
-use Rattle.navigate.proofs.OrbitLengths.{some_digits}
 use Rattle.navigate.proofs.PlaceLaws.{many, component_at, places_rise}
 use Rattle.navigate.proofs.places.components_to.Goals as goal
 
@@ -29,13 +27,3 @@ returns-then-place-clause-from g c = λ i l below.
     let up = places_rise m c.args.served.whole c.args.below i l below in
     let at = c.place.ensures.place ∙ ap (slice_index m.places) c.place_order-component.ensures.component in
     omega (arith, up, at, c.if-place.true)
-
-pub returns-then-place-clause-cost : goal.returns-then-place-clause-cost
-returns-then-place-clause-cost g c =
-    let some = some_digits (contents_of_view c.args.served) in
-    omega (arith, some, c.place_order-component.ensures.one_step, c.place.ensures.one_step)
-
-pub returns-clause-cost : goal.returns-clause-cost
-returns-clause-cost g c =
-    let few = digits_components (contents_of_view c.args.served) c.args.served.whole in
-    omega (arith, few, c.place_order-component.ensures.one_step, c.place.ensures.one_step, c.components_below.ensures.cost)

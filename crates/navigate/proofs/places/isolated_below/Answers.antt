@@ -2,7 +2,6 @@ use Rattle.std.proofs.Common.{arith, ◌+◌, ◌-◌, ◌/◌, ◌≡◌, ap}
 use Rattle.std.proofs.Common.{length}
 use Rattle.bit_words.specs.Digits.{digits}
 use Rattle.pemb_file.specs.Served.{contents_of_view}
-use Rattle.navigate.proofs.Facts.{digits_isolated}
 use Rattle.navigate.proofs.PlaceLaws.{nodes_rise, lower_half, upper_half}
 use Rattle.navigate.proofs.places.isolated_below.Goals as goal
 
@@ -58,6 +57,4 @@ pub returns-clause-from : goal.returns-clause-from
 returns-clause-from g c = λ k l below. c.loop-low.invariant.from k (omega (arith, l, c.loop-low-test.false)) below
 
 pub returns-clause-cost : goal.returns-clause-cost
-returns-clause-cost g c =
-    let few = digits_isolated (contents_of_view c.args.served) c.args.served.whole in
-    omega (arith, few, c.loop-low.invariant.paid)
+returns-clause-cost g c = omega (arith, c.loop-low.invariant.paid)

@@ -1,6 +1,5 @@
 use Rattle.std.proofs.Common.{arith}
 use Rattle.pemb_file.specs.Served.{contents_of_view}
-use Rattle.navigate.proofs.OrbitLengths.{some_digits}
 use Rattle.navigate.proofs.PlaceLaws.{nodes_rise}
 use Rattle.navigate.proofs.places.isolated_to.Goals as goal
 
@@ -8,11 +7,3 @@ pub returns-then-isolated-place-clause-from : goal.returns-then-isolated-place-c
 returns-then-isolated-place-clause-from g c = λ i l below.
     let up = nodes_rise (contents_of_view c.args.served) c.args.served.whole c.args.below i l below in
     omega (arith, up, c.isolated.ensures.place, c.if-isolated-place.true)
-
-pub returns-then-isolated-place-clause-cost : goal.returns-then-isolated-place-clause-cost
-returns-then-isolated-place-clause-cost g c = let some = some_digits (contents_of_view c.args.served) in omega (arith, some, c.isolated.ensures.one_step)
-
-pub returns-clause-cost : goal.returns-clause-cost
-returns-clause-cost g c =
-    let some = some_digits (contents_of_view c.args.served) in
-    omega (arith, some, c.isolated.ensures.one_step, c.isolated_below.ensures.cost)

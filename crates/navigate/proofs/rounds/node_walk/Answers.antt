@@ -10,7 +10,7 @@ use Rattle.navigate.proofs.Facts.{words_line, digits_view, few_nodes}
 use Rattle.navigate.proofs.Resting.{rest-none, allowance-none}
 use Rattle.navigate.proofs.MapLists.{node_list, node_alone}
 use Rattle.navigate.proofs.NodePlaces.{first_node}
-use Rattle.navigate.proofs.OrbitLengths.{some_digits}
+use Rattle.navigate.proofs.OrbitLengths.{some_digits, twice_read}
 use Rattle.navigate.proofs.rounds.node_walk.Goals as goal
 
 pub returns-in_default-clause-paid : goal.returns-in_default-clause-paid
@@ -36,7 +36,8 @@ returns-in-Some-first_of_node-clause-paid g c =
     let n = length (rest c.walk_from_smallest.result) in
     let words = words_line m c.args.served.whole n n in
     let k = digits_view m c.args.served.whole (code_of_view c.code.result.now) c.code.ensures.code in
-    omega (arith, d, k, words, c.in-Some.ensures.cost, c.in-Some-first_of_node.ensures.cost, c.walk_from_smallest.ensures.paid)
+    let twice = twice_read m n in
+    omega (arith, d, k, words, twice, c.in-Some.ensures.cost, c.in-Some-first_of_node.ensures.cost, c.walk_from_smallest.ensures.paid)
 
 pub returns-in-None-clause-list : goal.returns-in-None-clause-list
 returns-in-None-clause-list g c =

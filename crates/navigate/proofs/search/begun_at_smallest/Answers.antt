@@ -7,7 +7,7 @@ use Rattle.pemb_file.specs.Served.{contents_of_view}
 use Rattle.id_names.specs.Views.{names_in}
 use Rattle.navigate.specs.Bound.{line_digits}
 use Rattle.navigate.specs.Ranked.{IsRankOf}
-use Rattle.navigate.specs.OrbitWalk.{positions_left, price}
+use Rattle.navigate.specs.OrbitWalk.{positions_left, rank_price}
 use Rattle.navigate.proofs.Walking.{walk-head}
 use Rattle.navigate.proofs.FaceLaws.{orbit-some}
 use Rattle.navigate.proofs.RankLaws.{before_by_rank}
@@ -28,7 +28,7 @@ loop-found-init g c =
     let same = c.from-walk.ensures.contents in
     let new = positions_left c.ranked.new.self in
     let next : all ≡ own ∷ new = sym c.from-walk.ensures.positions ∙ c.in-Some.ensures.next in
-    let cost : c.ranked.new.steps ≤ c.args.steps.now + price m = let e = ap line_digits same in omega (arith, e, c.in-Some.ensures.cost.1) in
+    let cost : c.ranked.new.steps ≤ c.args.steps.now + rank_price m = let e = ap line_digits same in omega (arith, e, c.in-Some.ensures.cost.1) in
     record {
       map = c.in-Some.ensures.contents ∙ same;
       kind = c.in-Some.ensures.kind ∙ c.from-walk.ensures.kind;
@@ -50,7 +50,7 @@ loop-found-preserved-then-is_less g c =
     let names = names_in c.edges-edges.result.now in
     let edge = subst (λ (x : Contents). IsRankOf names c.in-Some-ranked.found.1 (signed_at x q)) i.map here.edge in
     let order = before_by_rank names c.in-Some-ranked.found.1 c.loop-found.best.1 (signed_at m q) (signed_at m c.loop-found.best.0) c.count-count.ensures.rising edge i.edge ∙ sym c.is_less.ensures in
-    let cost : c.ranked-in-loop-found.new.steps ≤ c.loop-found.steps + price m = let e = ap line_digits i.map in omega (arith, e, here.cost.1) in
+    let cost : c.ranked-in-loop-found.new.steps ≤ c.loop-found.steps + rank_price m = let e = ap line_digits i.map in omega (arith, e, here.cost.1) in
     record {
       map = here.contents ∙ i.map;
       kind = here.kind ∙ i.kind;
@@ -72,7 +72,7 @@ loop-found-preserved g c =
     let names = names_in c.edges-edges.result.now in
     let edge = subst (λ (x : Contents). IsRankOf names c.in-Some-ranked.found.1 (signed_at x q)) i.map here.edge in
     let order = before_by_rank names c.in-Some-ranked.found.1 c.loop-found.best.1 (signed_at m q) (signed_at m c.loop-found.best.0) c.count-count.ensures.rising edge i.edge ∙ sym c.is_less.ensures in
-    let cost : c.ranked-in-loop-found.new.steps ≤ c.loop-found.steps + price m = let e = ap line_digits i.map in omega (arith, e, here.cost.1) in
+    let cost : c.ranked-in-loop-found.new.steps ≤ c.loop-found.steps + rank_price m = let e = ap line_digits i.map in omega (arith, e, here.cost.1) in
     record {
       map = here.contents ∙ i.map;
       kind = here.kind ∙ i.kind;

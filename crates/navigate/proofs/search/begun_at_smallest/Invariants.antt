@@ -5,7 +5,7 @@ use Rattle.id_names.specs.Views.{names_in}
 use Rattle.navigate.specs.Ranked.{IsRankOf}
 use Rattle.navigate.specs.Least.{least, smallest_of}
 use Rattle.pemb_file.specs.Served.{contents_of_view}
-use Rattle.navigate.specs.OrbitWalk.{contents_in, positions_left, price}
+use Rattle.navigate.specs.OrbitWalk.{contents_in, positions_left, rank_price}
 use Rattle.navigate.proofs.search.begun_at_smallest.Given as goal
 
 abbrev pub invariant-loop-found : goal.invariant-loop-found
@@ -18,7 +18,7 @@ invariant-loop-found g l =
       edge : IsRankOf (names_in l.edges) l.best.1 (signed_at m l.best.0);
       least_left : least m l.best.0 (positions_left l.walk) ≡ smallest_of m l.kind l.p;
       grows : l.fn.steps + 1 ≤ l.steps;
-      paid : l.steps + price m * length (positions_left l.walk) ≤ l.fn.steps + price m * length (orbit m.code l.kind l.p);
+      paid : l.steps + rank_price m * length (positions_left l.walk) ≤ l.fn.steps + rank_price m * length (orbit m.code l.kind l.p);
     }
 
 abbrev pub decreases-loop-found : goal.decreases-loop-found

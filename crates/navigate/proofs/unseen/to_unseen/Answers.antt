@@ -18,7 +18,7 @@ loop-p-preserved g c =
     let old = face_positions c.loop-p.ring in
     let new = face_positions c.pass.new.self in
     let next : old ≡ c.in-Some.p ∷ new = passed old new (drop 1 old) c.in-Some.p c.pass.result c.in-Some.ensures.next c.pass.ensures.next in
-    let cost = passed_some old new (drop 1 old) c.in-Some.p c.pass.result c.place_across-across.new.steps c.pass.new.steps (9 * line_digits (contents_in c.loop-p.ring) + 71) c.in-Some.ensures.next c.pass.ensures.next c.pass.ensures.cost in
+    let cost = passed_some old new (drop 1 old) c.in-Some.p c.pass.result c.place_across-across.new.steps c.pass.new.steps (8 * line_digits (contents_in c.loop-p.ring) + 66) c.in-Some.ensures.next c.pass.ensures.next c.pass.ensures.cost in
     let digits = ap line_digits i.map in
     let face = c.place_across-across.ensures.place ∙ ap (λ (x : Contents). place_across x c.in-Some.p) i.map in
     record {

@@ -131,10 +131,10 @@ returns-clause-paid g c =
     let same = c.pass.ensures.contents in
     let at : contents_in c.to_unseen-self.new.ring ≡ m = c.to_unseen-self.ensures.contents ∙ same in
     let next = passed left mid (drop 1 left) c.in-Some._p c.pass.result c.in-Some.ensures.next c.pass.ensures.next in
-    let cost = passed_some left mid (drop 1 left) c.in-Some._p c.pass.result c.args.steps.now c.pass.new.steps (9 * line_digits m + 71) c.in-Some.ensures.next c.pass.ensures.next c.pass.ensures.cost in
+    let cost = passed_some left mid (drop 1 left) c.in-Some._p c.pass.result c.args.steps.now c.pass.new.steps (8 * line_digits m + 66) c.in-Some.ensures.next c.pass.ensures.next c.pass.ensures.cost in
     let digits = ap line_digits same in
-    let paid : c.to_unseen-self.new.steps + pass_price m * length new ≤ c.face_in-face.new.steps + (pass_price m * length mid + (13 * line_digits m + 123))
-    = subst (λ (x : Contents). c.to_unseen-self.new.steps + pass_price x * length new ≤ c.face_in-face.new.steps + (pass_price x * length mid + (13 * line_digits x + 123))) same c.to_unseen-self.ensures.paid in
+    let paid : c.to_unseen-self.new.steps + pass_price m * length new ≤ c.face_in-face.new.steps + (pass_price m * length mid + (12 * line_digits m + 121))
+    = subst (λ (x : Contents). c.to_unseen-self.new.steps + pass_price x * length new ≤ c.face_in-face.new.steps + (pass_price x * length mid + (12 * line_digits x + 121))) same c.to_unseen-self.ensures.paid in
     let done = step_paid m left mid new c.in-Some._p c.args.steps.now c.pass.new.steps c.face_in-face.new.steps c.to_unseen-self.new.steps next c.to_unseen-self.ensures.shorter cost.1 (omega (arith, digits, c.face_in-face.ensures.cost)) paid in
     let steps_left = ap (λ (x : Contents). step_price x * length new) at in
     let close_left = ap (λ (x : Contents). pass_price x * length (face_positions v.whole)) at in

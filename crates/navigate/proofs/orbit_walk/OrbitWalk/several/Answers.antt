@@ -3,7 +3,7 @@ use Rattle.std.proofs.Math.Nat.{mul-le-mul_left}
 use Rattle.bit_words.specs.Digits.{digits}
 use Rattle.id_names.specs.Views.{ids_of, names_in}
 use Rattle.navigate.specs.Bound.{line_digits}
-use Rattle.navigate.specs.OrbitWalk.{contents_in}
+use Rattle.navigate.specs.OrbitWalk.{contents_in, price, rank_price}
 use Rattle.navigate.specs.Ranked.{AreRanksOf}
 use Rattle.navigate.specs.RankedEdges.{ranks_in}
 use Rattle.navigate.specs.Several.{edges_in}
@@ -59,7 +59,7 @@ returns-clause-paid g c =
     let each : n * (3 * k + 18) ≤ n * (3 * l + 18) = mul-le-mul_left n (omega (arith, few)) in
     let ids : c.edges_of.new.steps ≤ c.several_ranked-ranks.new.steps + (3 * k + 18) * n
     = subst (λ x. c.edges_of.new.steps ≤ c.several_ranked-ranks.new.steps + (3 * k + 18) * x) (ap length c.as_slice.ensures.items ∙ many) c.edges_of.ensures.cost in
-    let walked = subst (λ x. c.several_ranked-ranks.new.steps ≤ c.args.steps.now + (13 * l + 119) * x) many s.cost in
-    let all : (13 * l + 119) * n + n * (3 * l + 18) + 21 * n ≡ (16 * l + 158) * n = omega arith in
+    let walked = subst (λ x. c.several_ranked-ranks.new.steps ≤ c.args.steps.now + rank_price m * x) many s.cost in
+    let all : rank_price m * n + n * (3 * l + 18) ≡ price m * n = omega arith in
     let more = allowance-several c.args.self.now c.several_ranked-ranks.new.self given s.contents s.gives.1 in
     omega (arith, each, ids, walked, all, more)

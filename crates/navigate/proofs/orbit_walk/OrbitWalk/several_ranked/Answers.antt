@@ -4,7 +4,7 @@ use Rattle.file_laws.specs.Contents.{Contents}
 use Rattle.file_laws.specs.MapOfFile.{signed_at}
 use Rattle.id_names.specs.Views.{names_in}
 use Rattle.navigate.specs.Bound.{line_digits}
-use Rattle.navigate.specs.OrbitWalk.{contents_in, rest}
+use Rattle.navigate.specs.OrbitWalk.{contents_in, rest, rank_price}
 use Rattle.navigate.specs.Ranked.{AreRanksOf}
 use Rattle.navigate.specs.RankedEdges.{ranks_in}
 use Rattle.navigate.specs.declared.ranked.RankedEdge.{RankedEdge}
@@ -43,7 +43,7 @@ loop-self-preserved g c =
     let d = signed_at (contents_in w) p in
     let next = rest-some w c.ranked.new.self p d here.contents here.next refl in
     let n : length (ranks_in c.push.new.self) ≡ length ranks + 1 = ap length c.push.ensures ∙ length-append ranks (edge ∷ []) in
-    let price : c.ranked.new.steps ≤ c.loop-self.steps + (13 * line_digits m + 119) = let e = ap line_digits i.contents in omega (arith, e, here.cost.1) in
+    let price : c.ranked.new.steps ≤ c.loop-self.steps + rank_price m = let e = ap line_digits i.contents in omega (arith, e, here.cost.1) in
     record {
       contents = here.contents ∙ i.contents;
       gives = (
@@ -56,7 +56,7 @@ loop-self-preserved g c =
         | inr full ↦ absurd (eqb-false (length ranks) SEVERAL (sym c.loop-self-test.ensures) (omega (arith, full, i.few)))
       ];
       least = omega (arith, n, i.least, here.cost.0);
-      cost = cost_more (13 * line_digits m + 119) (length ranks) (length (ranks_in c.push.new.self)) c.args.steps.now c.loop-self.steps c.ranked.new.steps n i.cost price;
+      cost = cost_more (rank_price m) (length ranks) (length (ranks_in c.push.new.self)) c.args.steps.now c.loop-self.steps c.ranked.new.steps n i.cost price;
     }
 
 pub returns-in-None-clause-end : goal.returns-in-None-clause-end

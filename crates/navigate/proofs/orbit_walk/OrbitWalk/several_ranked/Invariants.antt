@@ -1,7 +1,6 @@
 use Rattle.std.proofs.Common.{ℤ, List, ◌≡◌, ◌≤◌, ◌+◌, ◌-◌, ◌*◌, ◌++◌, length}
 use Rattle.id_names.specs.Views.{names_in}
-use Rattle.navigate.specs.Bound.{line_digits}
-use Rattle.navigate.specs.OrbitWalk.{contents_in, rest}
+use Rattle.navigate.specs.OrbitWalk.{contents_in, rest, rank_price}
 use Rattle.navigate.specs.Ranked.{AreRanksOf}
 use Rattle.navigate.specs.RankedEdges.{ranks_in}
 use Rattle.navigate.specs.declared.several.TheConstants.{SEVERAL}
@@ -13,7 +12,7 @@ invariant-loop-self g l = record {
   gives : (given : List ℤ) × (rest l.fn.self ≡ given ++ rest l.self) × AreRanksOf (names_in l.edges) (ranks_in l.ranks) given;
   few : length (ranks_in l.ranks) ≤ SEVERAL;
   least : l.fn.steps + length (ranks_in l.ranks) ≤ l.steps;
-  cost : l.steps ≤ l.fn.steps + (13 * line_digits (contents_in l.fn.self) + 119) * length (ranks_in l.ranks);
+  cost : l.steps ≤ l.fn.steps + rank_price (contents_in l.fn.self) * length (ranks_in l.ranks);
 }
 
 abbrev pub decreases-loop-self : goal.decreases-loop-self
