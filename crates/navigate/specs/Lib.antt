@@ -11,4 +11,3 @@ pub mod RegionWalk
 pub mod AdjacentWalk
 pub mod Standing
 pub mod Several
-pub mod RankedEdges

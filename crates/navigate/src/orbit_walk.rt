@@ -55,7 +55,6 @@ impl<'a> OrbitWalk<'a> {
     ghost use Rattle.navigate.specs.OrbitWalk.{contents_in, positions_left, rest, price, rank_price, allowance};
     ghost use Rattle.navigate.specs.Ranked.{IsRankOf, AreRanksOf};
     ghost use Rattle.navigate.specs.Several.{edges_in};
-    ghost use Rattle.navigate.specs.RankedEdges.{ranks_in};
 
     /// The walk that begins at a position, which may be in this component, and ends before it.
     pub(crate) fn from(served: Served<'a>, kind: bool, p: usize, component: usize) -> OrbitWalk<'a>
@@ -279,13 +278,13 @@ impl<'a> OrbitWalk<'a> {
         requires { ids_of edges.now ≡ (contents_in self.old).edges }
         ensures contents { contents_in self.new ≡ contents_in self.old }
         ensures gives { (given : List ℤ) × (rest self.old ≡ given ++ rest self.new)
-            × AreRanksOf (names_in edges.now) (ranks_in result) given }
-        ensures end { ranks_in result ≡ [] → rest self.old ≡ [] }
-        ensures least { steps.old + length (ranks_in result) ≤ steps.new }
-        ensures free { ranks_in result ≡ [] → steps.new ≡ steps.old }
-        ensures cost { steps.new ≤ steps.old + rank_price (contents_in self.old) * length (ranks_in result) }
+            × AreRanksOf (names_in edges.now) result.items given }
+        ensures end { result.items ≡ [] → rest self.old ≡ [] }
+        ensures least { steps.old + length result.items ≤ steps.new }
+        ensures free { result.items ≡ [] → steps.new ≡ steps.old }
+        ensures cost { steps.new ≤ steps.old + rank_price (contents_in self.old) * length result.items }
     {
-        let mut ranks = RankedEdges::none();
+        let mut ranks = RankedEdges::new();
         while !ranks.is_full() {
             match self.ranked(edges, steps) {
                 Some(found) => ranks.push(found.1),

@@ -14,7 +14,7 @@ use pemb_file::Served;
 use std::sync::ledger::Ledger;
 
 /// A signed edge by the rank of its edge's id: its place in the list of ids that rises.
-#[derive(Clone, Copy)]
+#[derive(Clone, Copy, Default)]
 pub(crate) struct RankedEdge {
     pub(crate) rank: usize,
     pub(crate) is_forward: bool,

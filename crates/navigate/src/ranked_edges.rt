@@ -10,60 +10,13 @@ ghost use Rattle.navigate.specs.declared.several.TheConstants.{SEVERAL};
 use crate::directed::with_direction;
 use crate::ranked::RankedEdge;
 use crate::several::{SEVERAL, Several};
+use arrayvec::ArrayVec;
 use bit_words::Steps;
 use id_names::NamesView;
 use std::sync::ledger::Ledger;
 
 /// The signed edges at some positions by the ranks of their ids, one after the other.
-#[derive(Clone, Copy)]
-pub(crate) struct RankedEdges {
-    edges: [RankedEdge; SEVERAL],
-    count: usize,
-    ghost room: { count ≤ SEVERAL },
-}
-
-impl RankedEdges {
-    ghost use Rattle.std.specs.Prelude.{◌≡◌, ◌<◌, ◌==◌, ◌∷◌, ◌++◌, [], length};
-    ghost use Rattle.navigate.specs.RankedEdges.{ranks_in};
-    ghost use Rattle.navigate.specs.declared.several.TheConstants.{SEVERAL};
-
-    /// None yet.
-    pub(crate) fn none() -> RankedEdges
-        ensures { ranks_in result ≡ [] }
-    {
-        RankedEdges {
-            edges: [RankedEdge {
-                rank: 0,
-                is_forward: false,
-            }; SEVERAL],
-            count: 0,
-        }
-    }
-
-    /// Whether there is no room for one more.
-    pub(crate) fn is_full(&self) -> bool
-        ensures { result ≡ (length (ranks_in self.now) == SEVERAL) }
-    {
-        self.count == SEVERAL
-    }
-
-    /// One more behind them.
-    pub(crate) fn push(&mut self, edge: RankedEdge)
-        requires { length (ranks_in self.old) < SEVERAL }
-        ensures { ranks_in self.new ≡ ranks_in self.old ++ edge ∷ [] }
-    {
-        self.edges[self.count] = edge;
-        self.count += 1;
-    }
-
-    /// The edges.
-    pub(crate) fn as_slice(&self) -> &[RankedEdge]
-        ensures items { result.now ≡ ranks_in self.now }
-        ensures few { length result.now ≤ SEVERAL }
-    {
-        &self.edges[..self.count]
-    }
-}
+pub(crate) type RankedEdges = ArrayVec<RankedEdge, SEVERAL>;
 
 /// The signed edges of these ranks among the names. No read of an id waits for that of another.
 pub(crate) fn edges_of<C: Ledger>(

@@ -1,14 +1,11 @@
-use Rattle.std.proofs.Common.{◌≡◌, ◌≤◌, ◌+◌, ◌*◌, ◌∷◌, ◌++◌, [], List, length, length-append, append_assoc, refl, ap, sym, ◌∙◌, subst, arith, inl, inr}
-use Rattle.std.proofs.lemmas.Bool.{cases_lt, eqb-false}
+use Rattle.std.proofs.Common.{◌≡◌, ◌≤◌, ◌+◌, ◌∷◌, ◌++◌, [], List, length, length-append, append_assoc, refl, ap, sym, ◌∙◌, subst, arith}
 use Rattle.file_laws.specs.Contents.{Contents}
 use Rattle.file_laws.specs.MapOfFile.{signed_at}
 use Rattle.id_names.specs.Views.{names_in}
 use Rattle.navigate.specs.Bound.{line_digits}
 use Rattle.navigate.specs.OrbitWalk.{contents_in, rest, rank_price}
 use Rattle.navigate.specs.Ranked.{AreRanksOf}
-use Rattle.navigate.specs.RankedEdges.{ranks_in}
 use Rattle.navigate.specs.declared.ranked.RankedEdge.{RankedEdge}
-use Rattle.navigate.specs.declared.several.TheConstants.{SEVERAL}
 use Rattle.navigate.proofs.RankLists.{ranks_more, ranks_none, cost_more}
 use Rattle.navigate.proofs.Resting.{rest-none, rest-some}
 use Rattle.navigate.proofs.orbit_walk.OrbitWalk.several_ranked.Goals as goal
@@ -19,12 +16,11 @@ ranked-requires g c = c.requires ∙ ap (λ (x : Contents). x.edges) (sym c.loop
 pub loop-self-init : goal.loop-self-init
 loop-self-init g c =
     let names = names_in c.args.edges.now in
-    let none = c.none-ranks.ensures in
-    let n : length (ranks_in c.none-ranks.result) ≡ 0 = ap length none in
+    let none = c.new-ranks.ensures in
+    let n : length c.new-ranks.result.items ≡ 0 = ap length none in
     record {
       contents = refl;
       gives = ([], refl, subst (λ (xs : List RankedEdge). AreRanksOf names xs []) (sym none) tt);
-      few = omega (arith, n);
       least = omega (arith, n);
       cost = omega arith;
     }
@@ -35,34 +31,30 @@ loop-self-preserved g c =
     let names = names_in c.args.edges.now in
     let i = c.loop-self.invariant in
     let w = c.loop-self.self in
-    let ranks = ranks_in c.loop-self.ranks in
+    let ranks = c.loop-self.ranks.items in
     let given = i.gives.0 in
     let here = c.in-Some.ensures in
     let p = c.in-Some.found.0 in
     let edge = c.in-Some.found.1 in
     let d = signed_at (contents_in w) p in
     let next = rest-some w c.ranked.new.self p d here.contents here.next refl in
-    let n : length (ranks_in c.push.new.self) ≡ length ranks + 1 = ap length c.push.ensures ∙ length-append ranks (edge ∷ []) in
+    let n : length c.push.new.self.items ≡ length ranks + 1 = ap length c.push.ensures.items ∙ length-append ranks (edge ∷ []) in
     let price : c.ranked.new.steps ≤ c.loop-self.steps + rank_price m = let e = ap line_digits i.contents in omega (arith, e, here.cost.1) in
     record {
       contents = here.contents ∙ i.contents;
       gives = (
         given ++ d ∷ [],
         i.gives.1 ∙ ap (λ x. given ++ x) next ∙ sym (append_assoc given (d ∷ []) (rest c.ranked.new.self)),
-        subst (λ (xs : List RankedEdge). AreRanksOf names xs (given ++ d ∷ [])) (sym c.push.ensures) (ranks_more names ranks given edge d i.gives.2 here.edge),
+        subst (λ (xs : List RankedEdge). AreRanksOf names xs (given ++ d ∷ [])) (sym c.push.ensures.items) (ranks_more names ranks given edge d i.gives.2 here.edge),
       );
-      few = elim (cases_lt (length ranks) SEVERAL) [
-        | inl room ↦ omega (arith, n, room)
-        | inr full ↦ absurd (eqb-false (length ranks) SEVERAL (sym c.loop-self-test.ensures) (omega (arith, full, i.few)))
-      ];
       least = omega (arith, n, i.least, here.cost.0);
-      cost = cost_more (rank_price m) (length ranks) (length (ranks_in c.push.new.self)) c.args.steps.now c.loop-self.steps c.ranked.new.steps n i.cost price;
+      cost = cost_more (rank_price m) (length ranks) (length c.push.new.self.items) c.args.steps.now c.loop-self.steps c.ranked.new.steps n i.cost price;
     }
 
 pub returns-in-None-clause-end : goal.returns-in-None-clause-end
 returns-in-None-clause-end g c = λ e.
     let i = c.loop-self.invariant in
-    i.gives.1 ∙ ap (λ x. x ++ rest c.loop-self.self) (ranks_none (names_in c.args.edges.now) (ranks_in c.loop-self.ranks) i.gives.0 e i.gives.2) ∙ rest-none c.loop-self.self c.in-None.ensures.next
+    i.gives.1 ∙ ap (λ x. x ++ rest c.loop-self.self) (ranks_none (names_in c.args.edges.now) c.loop-self.ranks.items i.gives.0 e i.gives.2) ∙ rest-none c.loop-self.self c.in-None.ensures.next
 
 pub returns-in-None-clause-gives : goal.returns-in-None-clause-gives
 returns-in-None-clause-gives g c =

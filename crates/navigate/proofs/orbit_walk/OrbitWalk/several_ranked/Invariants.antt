@@ -2,18 +2,16 @@ use Rattle.std.proofs.Common.{ℤ, List, ◌≡◌, ◌≤◌, ◌+◌, ◌-◌,
 use Rattle.id_names.specs.Views.{names_in}
 use Rattle.navigate.specs.OrbitWalk.{contents_in, rest, rank_price}
 use Rattle.navigate.specs.Ranked.{AreRanksOf}
-use Rattle.navigate.specs.RankedEdges.{ranks_in}
 use Rattle.navigate.specs.declared.several.TheConstants.{SEVERAL}
 use Rattle.navigate.proofs.orbit_walk.OrbitWalk.several_ranked.Given as goal
 
 abbrev pub invariant-loop-self : goal.invariant-loop-self
 invariant-loop-self g l = record {
   contents : contents_in l.self ≡ contents_in l.fn.self;
-  gives : (given : List ℤ) × (rest l.fn.self ≡ given ++ rest l.self) × AreRanksOf (names_in l.edges) (ranks_in l.ranks) given;
-  few : length (ranks_in l.ranks) ≤ SEVERAL;
-  least : l.fn.steps + length (ranks_in l.ranks) ≤ l.steps;
-  cost : l.steps ≤ l.fn.steps + rank_price (contents_in l.fn.self) * length (ranks_in l.ranks);
+  gives : (given : List ℤ) × (rest l.fn.self ≡ given ++ rest l.self) × AreRanksOf (names_in l.edges) l.ranks.items given;
+  least : l.fn.steps + length l.ranks.items ≤ l.steps;
+  cost : l.steps ≤ l.fn.steps + rank_price (contents_in l.fn.self) * length l.ranks.items;
 }
 
 abbrev pub decreases-loop-self : goal.decreases-loop-self
-decreases-loop-self g l = SEVERAL - length (ranks_in l.ranks)
+decreases-loop-self g l = SEVERAL - length l.ranks.items
