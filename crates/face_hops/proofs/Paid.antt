@@ -29,13 +29,13 @@ use Rattle.face_hops.proofs.Ways.{hops_at, way, few_moves}
 
 -- one face
 
-pub round_begun : (c : Contents) (f n k first last : ℕ) → n ≡ length (face_edges (map_with c) f) → k ≡ length (face_edges (map_with c) f) → last ≤ first + (14 * line_digits c + 30 + orbits.price c * k)
+pub round_begun : (c : Contents) (f n k first last : ℕ) → n ≡ length (face_edges (map_with c) f) → k ≡ length (face_edges (map_with c) f) → last ≤ first + (10 * line_digits c + 24 + orbits.rank_price c * k)
     → last + rings.pass_price c * n ≤ first + rounds_price c (f ∷ [])
 unfolding along
 round_begun c f n k first last is same l =
     let d = line_digits c in
     let e : edge_price c * n ≡ edge_price c * length (face_edges (map_with c) f) = ap (λ x. edge_price c * x) is in
-    let p : orbits.price c * k ≡ orbits.price c * n = ap (λ x. orbits.price c * x) (same ∙ sym is) in
+    let p : orbits.rank_price c * k ≡ orbits.rank_price c * n = ap (λ x. orbits.rank_price c * x) (same ∙ sym is) in
     omega (arith, e, p, l)
 
 -- one face more

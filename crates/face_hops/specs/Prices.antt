@@ -21,11 +21,11 @@ along m (f ∷ fs) = length (face_edges m f) + along m fs
 -- what going round a face costs at most for each of its signed edges: a step of the search for the smallest, and a look
 -- across
 abbrev pub edge_price : Contents → ℕ
-edge_price c = orbits.price c + rings.pass_price c
+edge_price c = orbits.rank_price c + rings.pass_price c
 
 -- and what it costs at most besides
 abbrev pub start_price : Contents → ℕ
-start_price c = 14 * line_digits c + 30
+start_price c = 10 * line_digits c + 24
 
 -- what going round these faces costs at most
 abbrev pub rounds_price : Contents → List ℕ → ℕ
