@@ -1,4 +1,4 @@
--- How many nodes, edges and rings a component has, by counts of darts.
+-- How many nodes, edges and rings a component has, by counts of numbers of components.
 use Rattle.std.proofs.Common.{◌≡◌, ℕ, zero, suc, ◌*◌, ◌/◌, ◌%◌, ◌<◌, inl, inr, ℤ, pos, Bool, true, false, ◌==◌, List, [], ◌∷◌, map, length, get_or, refl, sym, ap, ◌∙◌, subst, arith, eq-eqb, Option, Some, None}
 use Rattle.std.specs.List.{list_any, list_all}
 use Rattle.std.proofs.lemmas.Bool.{eqb-true, and_parts, cases_Bool, or_left, or_right, both_ways}
@@ -18,7 +18,7 @@ use Rattle.plane_model.proofs.ComponentParts.{component-node, component-round, c
 use Rattle.rotation_check.specs.Darts.{RotationRows, IsRotation, map_of_rotation, signed_edge}
 use Rattle.rotation_check.proofs.DartLists.{dart_place, signed_there}
 use Rattle.rotation_check.proofs.EndLemmas.{node_id-get}
-use Rattle.euler_check.specs.Counts.{AreLabelDarts, AreCounted, AreCountsOf, HasNumber, LeavesRow, count_below, is_in}
+use Rattle.euler_check.specs.Counts.{AreLabelParts, AreCounted, AreCountsOf, HasNumber, LeavesRow, count_below, is_in}
 use Rattle.euler_check.specs.Marks.{number_at}
 use Rattle.euler_check.specs.Numbers.{Numbers, ArePartNumbers}
 use Rattle.euler_check.proofs.Counted.{rings_passing}
@@ -30,7 +30,7 @@ module _ (r : RotationRows) (is : IsRotation r) (components : Numbers) (are : Ar
   m = map_of_rotation r
 
   -- the component of a dart has another dart exactly where that one has its number
-  same_number : (s d : ℕ) → s < 2 * length r.edges → d < 2 * length r.edges → has_edge (component (map_of_rotation r) (signed_edge r.edges s)) (signed_edge r.edges d) ≡ is_in components (get_or components.of_darts s 0) (Some d)
+  same_number : (s d : ℕ) → s < 2 * length r.edges → d < 2 * length r.edges → has_edge (component (map_of_rotation r) (signed_edge r.edges s)) (signed_edge r.edges d) ≡ is_in (get_or components.of_darts s 0) (Some (get_or components.of_darts d 0))
   same_number s d h q =
       same_tests (has_edge (component (map_of_rotation r) (signed_edge r.edges s)) (signed_edge r.edges d)) (get_or components.of_darts d 0 == get_or components.of_darts s 0)
       (λ on. eq-eqb _ _ (sym ((are.same s d h q).1 on)))
@@ -48,7 +48,7 @@ module _ (r : RotationRows) (is : IsRotation r) (components : Numbers) (are : Ar
           let even : (2 * suc k) % 2 ≡ (2 * k) % 2 = omega arith in
           rw (half, even) (ids edges k (omega arith))
 
-  pub edges_counted : (counts : List ℕ) → AreCounted components (λ i. Some (2 * i)) (length r.edges) counts → AreCountsOf r edge_count components counts
+  pub edges_counted : (counts : List ℕ) → AreCounted components.count (λ i. Some (get_or components.of_darts (2 * i) 0)) (length r.edges) counts → AreCountsOf r edge_count components counts
   edges_counted counts all =
       record {
         size = all.size;
@@ -58,11 +58,11 @@ module _ (r : RotationRows) (is : IsRotation r) (components : Numbers) (are : Ar
             all.counted (get_or components.of_darts s 0) (are.below s h)
             ∙ sym (pass_rising (λ e. has_edge c (pos e)) (map (λ e. e.id) r.edges) ∙ count-list (λ e. has_edge c (pos e)) (map (λ e. e.id) r.edges) 0
             ∙ ap (λ n. count_below n (λ i. has_edge c (pos (get_or (map (λ e. e.id) r.edges) i 0)))) l
-            ∙ count-same (length r.edges) (λ i. has_edge c (pos (get_or (map (λ e. e.id) r.edges) i 0))) (λ i. is_in components (get_or components.of_darts s 0) (Some (2 * i)))
+            ∙ count-same (length r.edges) (λ i. has_edge c (pos (get_or (map (λ e. e.id) r.edges) i 0))) (λ i. is_in (get_or components.of_darts s 0) (Some (get_or components.of_darts (2 * i) 0)))
             (λ i q. ap (has_edge c) (forward i q) ∙ same_number s (2 * i) h (omega arith)));
       }
 
-  -- nodes: any dart that leaves a node decides
+  -- nodes: the component of any dart that leaves a node decides
   none_left : (s : ℤ → Bool) (n : ℕ) → ((d : ℕ) → d < 2 * length r.edges → origin (map_of_rotation r) (signed_edge r.edges d) ≡ n → ⊥) → list_any s (leaving (map_of_rotation r) n) ≡ false
   none_left s n none = by_list (leaving (map_of_rotation r) n) refl
     where
@@ -107,53 +107,53 @@ module _ (r : RotationRows) (is : IsRotation r) (components : Numbers) (are : Ar
       at (x ∷ xs) zero h = or_left _ _ (eq-eqb x x refl)
       at (x ∷ xs) (suc k) h = or_right _ _ (at xs k (omega arith))
 
-  pub nodes_counted : (darts : List (Option ℕ)) (counts : List ℕ) → AreLabelDarts (LeavesRow r) (length r.nodes) (2 * length r.edges) darts → AreCounted components (number_at darts) (length darts) counts → AreCountsOf r node_count components counts
-  nodes_counted darts counts places all =
+  pub nodes_counted : (numbers : List (Option ℕ)) (counts : List ℕ) → AreLabelParts components (LeavesRow r) (length r.nodes) (2 * length r.edges) numbers → AreCounted components.count (number_at numbers) (length numbers) counts → AreCountsOf r node_count components counts
+  nodes_counted numbers counts places all =
       record {
         size = all.size;
         counted = λ s h.
             let c = component (map_of_rotation r) (signed_edge r.edges s) in
             let ids = map (λ (n : NodeRow). n.id) r.nodes in
             all.counted (get_or components.of_darts s 0) (are.below s h)
-            ∙ ap (λ n. count_below n (λ i. is_in components (get_or components.of_darts s 0) (number_at darts i))) places.size
+            ∙ ap (λ n. count_below n (λ i. is_in (get_or components.of_darts s 0) (number_at numbers i))) places.size
             ∙ sym (pass_rising (λ n. list_any (has_edge c) (leaving (map_of_rotation r) n)) ids ∙ count-list (λ n. list_any (has_edge c) (leaving (map_of_rotation r) n)) ids 0
             ∙ ap (λ n. count_below n (λ i. list_any (has_edge c) (leaving (map_of_rotation r) (get_or ids i 0)))) (length-map r.nodes (λ (n : NodeRow). n.id))
-            ∙ count-same (length r.nodes) (λ i. list_any (has_edge c) (leaving (map_of_rotation r) (get_or ids i 0))) (λ i. is_in components (get_or components.of_darts s 0) (number_at darts i))
-            (λ i q. by_place s h i q (number_at darts i) refl));
+            ∙ count-same (length r.nodes) (λ i. list_any (has_edge c) (leaving (map_of_rotation r) (get_or ids i 0))) (λ i. is_in (get_or components.of_darts s 0) (number_at numbers i))
+            (λ i q. by_place s h i q (number_at numbers i) refl));
       }
     where
-      by_place : (s : ℕ) → s < 2 * length r.edges → (i : ℕ) → i < length r.nodes → (o : Option ℕ) → number_at darts i ≡ o
-          → list_any (has_edge (component (map_of_rotation r) (signed_edge r.edges s))) (leaving (map_of_rotation r) (get_or (map (λ (n : NodeRow). n.id) r.nodes) i 0)) ≡ is_in components (get_or components.of_darts s 0) (number_at darts i)
+      by_place : (s : ℕ) → s < 2 * length r.edges → (i : ℕ) → i < length r.nodes → (o : Option ℕ) → number_at numbers i ≡ o
+          → list_any (has_edge (component (map_of_rotation r) (signed_edge r.edges s))) (leaving (map_of_rotation r) (get_or (map (λ (n : NodeRow). n.id) r.nodes) i 0)) ≡ is_in (get_or components.of_darts s 0) (number_at numbers i)
       by_place s h i q None e =
           none_left (has_edge (component (map_of_rotation r) (signed_edge r.edges s))) (get_or (map (λ (n : NodeRow). n.id) r.nodes) i 0)
           (λ d lt leaves. places.none i d q lt e (leaves ∙ sym (node_id-get r.nodes i)))
-          ∙ ap (is_in components (get_or components.of_darts s 0)) (sym e)
-      by_place s h i q (Some d) e =
-          let it = places.some i d q e in
-          one_left (signed_edge r.edges s) (signed_there (own_rows r) s h) (get_or (map (λ (n : NodeRow). n.id) r.nodes) i 0) (node_there i q) d it.0 (it.1 ∙ node_id-get r.nodes i)
-          ∙ same_number s d h it.0 ∙ ap (is_in components (get_or components.of_darts s 0)) (sym e)
+          ∙ ap (is_in (get_or components.of_darts s 0)) (sym e)
+      by_place s h i q (Some part) e =
+          let it = places.some i part q e in
+          one_left (signed_edge r.edges s) (signed_there (own_rows r) s h) (get_or (map (λ (n : NodeRow). n.id) r.nodes) i 0) (node_there i q) it.0 it.1 (it.2 ∙ node_id-get r.nodes i)
+          ∙ same_number s it.0 h it.1 ∙ ap (λ x. is_in (get_or components.of_darts s 0) (Some x)) it.3 ∙ ap (is_in (get_or components.of_darts s 0)) (sym e)
 
   -- rings: each has a dart, and that one decides
-  pub rings_counted_in : (rings : Numbers) → ArePartNumbers r.edges (ring (map_of_rotation r)) rings → (darts : List (Option ℕ)) (counts : List ℕ) → AreLabelDarts (HasNumber rings) rings.count (2 * length r.edges) darts
-      → AreCounted components (number_at darts) (length darts) counts → AreCountsOf r ring_count components counts
-  rings_counted_in rings_are_of rings_are darts counts places all =
+  pub rings_counted_in : (rings : Numbers) → ArePartNumbers r.edges (ring (map_of_rotation r)) rings → (numbers : List (Option ℕ)) (counts : List ℕ) → AreLabelParts components (HasNumber rings) rings.count (2 * length r.edges) numbers
+      → AreCounted components.count (number_at numbers) (length numbers) counts → AreCountsOf r ring_count components counts
+  rings_counted_in rings_are_of rings_are numbers counts places all =
       record {
         size = all.size;
         counted = λ s h.
             all.counted (get_or components.of_darts s 0) (are.below s h)
-            ∙ ap (λ n. count_below n (λ i. is_in components (get_or components.of_darts s 0) (number_at darts i))) places.size
-            ∙ sym (rings_passing r is rings_are_of rings_are (has_edge (component (map_of_rotation r) (signed_edge r.edges s))) (λ i. is_in components (get_or components.of_darts s 0) (number_at darts i))
-            (λ d q. by_place s h d q (number_at darts (get_or rings_are_of.of_darts d 0)) refl));
+            ∙ ap (λ n. count_below n (λ i. is_in (get_or components.of_darts s 0) (number_at numbers i))) places.size
+            ∙ sym (rings_passing r is rings_are_of rings_are (has_edge (component (map_of_rotation r) (signed_edge r.edges s))) (λ i. is_in (get_or components.of_darts s 0) (number_at numbers i))
+            (λ d q. by_place s h d q (number_at numbers (get_or rings_are_of.of_darts d 0)) refl));
       }
     where
-      by_place : (s : ℕ) → s < 2 * length r.edges → (d : ℕ) → d < 2 * length r.edges → (o : Option ℕ) → number_at darts (get_or rings_are_of.of_darts d 0) ≡ o
-          → has_edge (component (map_of_rotation r) (signed_edge r.edges s)) (smallest (signed_edge r.edges d) (ring (map_of_rotation r) (signed_edge r.edges d))) ≡ is_in components (get_or components.of_darts s 0) (number_at darts (get_or rings_are_of.of_darts d 0))
+      by_place : (s : ℕ) → s < 2 * length r.edges → (d : ℕ) → d < 2 * length r.edges → (o : Option ℕ) → number_at numbers (get_or rings_are_of.of_darts d 0) ≡ o
+          → has_edge (component (map_of_rotation r) (signed_edge r.edges s)) (smallest (signed_edge r.edges d) (ring (map_of_rotation r) (signed_edge r.edges d))) ≡ is_in (get_or components.of_darts s 0) (number_at numbers (get_or rings_are_of.of_darts d 0))
       by_place s h d q None e = absurd (places.none (get_or rings_are_of.of_darts d 0) d (rings_are.below d q) q e refl)
-      by_place s h d q (Some k) e =
-          let it = places.some (get_or rings_are_of.of_darts d 0) k (rings_are.below d q) e in
+      by_place s h d q (Some part) e =
+          let it = places.some (get_or rings_are_of.of_darts d 0) part (rings_are.below d q) e in
           let s_in = signed_there (own_rows r) s h in
           let d_in = signed_there (own_rows r) d q in
           let own = name_there (signed_edges (map_of_rotation r)) (ring (map_of_rotation r)) (ring_parts (own_rows r) is.rotation) (signed_edge r.edges d) d_in in
           component-ring (own_rows r) is.rotation (signed_edge r.edges s) (signed_edge r.edges d) (smallest (signed_edge r.edges d) (ring (map_of_rotation r) (signed_edge r.edges d))) s_in d_in own.1
-          ∙ sym (component-ring (own_rows r) is.rotation (signed_edge r.edges s) (signed_edge r.edges d) (signed_edge r.edges k) s_in d_in ((rings_are.same d k q it.0).0 (sym it.1)))
-          ∙ same_number s k h it.0 ∙ ap (is_in components (get_or components.of_darts s 0)) (sym e)
+          ∙ sym (component-ring (own_rows r) is.rotation (signed_edge r.edges s) (signed_edge r.edges d) (signed_edge r.edges it.0) s_in d_in ((rings_are.same d it.0 q it.1).0 (sym it.2)))
+          ∙ same_number s it.0 h it.1 ∙ ap (λ x. is_in (get_or components.of_darts s 0) (Some x)) it.3 ∙ ap (is_in (get_or components.of_darts s 0)) (sym e)

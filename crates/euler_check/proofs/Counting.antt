@@ -6,7 +6,7 @@ use Rattle.std.proofs.lemmas.Bool.{cases_Bool, cases_eq, cases_lt, ne_eqb}
 use Rattle.std.proofs.lemmas.Grind.{get_or_default_zero}
 use Rattle.std.proofs.lemmas.List.{get_or-set_same, get_or-set_other, length-replicate}
 use Rattle.plane_model.specs.Sets.{put, rising}
-use Rattle.euler_check.specs.Counts.{AreLabelDarts, AreCounted, count_below, is_in}
+use Rattle.euler_check.specs.Counts.{AreLabelParts, AreCounted, count_below, is_in}
 use Rattle.euler_check.specs.Marks.{number_at}
 use Rattle.euler_check.specs.Numbers.{Numbers}
 use Rattle.euler_check.proofs.Numbered.{not_both}
@@ -77,41 +77,40 @@ pass_rising p (x ∷ xs) = pass_put p x (rising xs) ∙ behind (pass_rising p xs
     behind : length (filter p (rising xs)) ≡ length (filter p xs) → length (filter p (x ∷ rising xs)) ≡ length (filter p (x ∷ xs))
     behind h = elim (cases_Bool (p x)) [ inl e ↦ rw e (ap suc h) | inr e ↦ rw e h ]
 
--- counts of darts, one dart further
+-- counts of parts, one further
 none_counted : (parts x : ℕ) → get_or (replicate parts (let z : ℕ = 0 in z)) x 0 ≡ 0
 none_counted zero x = refl
 none_counted (suc n) zero = refl
 none_counted (suc n) (suc x) = none_counted n x
 
-pub counted_none : (parts : Numbers) (dart : ℕ → Option ℕ) (counts : List ℕ) → counts ≡ replicate parts.count 0 → AreCounted parts dart 0 counts
+pub counted_none : (parts : ℕ) (part : ℕ → Option ℕ) (counts : List ℕ) → counts ≡ replicate parts 0 → AreCounted parts part 0 counts
 unfolding count_below
-counted_none parts dart counts is =
+counted_none parts part counts is =
     record {
-      size = ap length is ∙ length-replicate parts.count 0;
-      counted = λ x h. ap (λ xs. get_or xs x 0) is ∙ none_counted parts.count x;
+      size = ap length is ∙ length-replicate parts 0;
+      counted = λ x h. ap (λ xs. get_or xs x 0) is ∙ none_counted parts x;
     }
 
-pub counted_skip : (parts : Numbers) (dart : ℕ → Option ℕ) (k : ℕ) (counts : List ℕ) → dart k ≡ None → AreCounted parts dart k counts → AreCounted parts dart (k + 1) counts
-counted_skip parts dart k counts none old =
+pub counted_skip : (parts : ℕ) (part : ℕ → Option ℕ) (k : ℕ) (counts : List ℕ) → part k ≡ None → AreCounted parts part k counts → AreCounted parts part (k + 1) counts
+counted_skip parts part k counts none old =
     record {
       size = old.size;
       counted = λ x h.
-          let next = count-next k (λ i. is_in parts x (dart i)) in
-          let zero_more : one_if (is_in parts x (dart k)) ≡ 0 = ap (λ o. one_if (is_in parts x o)) none in
+          let next = count-next k (λ i. is_in x (part i)) in
+          let zero_more : one_if (is_in x (part k)) ≡ 0 = ap (λ o. one_if (is_in x o)) none in
           let was = old.counted x h in
           omega arith;
     }
 
--- where the dart is in the part y
-pub counted_next : (parts : Numbers) (dart : ℕ → Option ℕ) (k d y : ℕ) (counts : List ℕ) → dart k ≡ Some d → get_or parts.of_darts d 0 ≡ y → y < parts.count → AreCounted parts dart k counts
-    → AreCounted parts dart (k + 1) (slice_set counts y (get_or counts y 0 + 1))
-counted_next parts dart k d y counts some is_y below old =
+-- where the next is the part y
+pub counted_next : (parts : ℕ) (part : ℕ → Option ℕ) (k y : ℕ) (counts : List ℕ) → part k ≡ Some y → y < parts → AreCounted parts part k counts → AreCounted parts part (k + 1) (slice_set counts y (get_or counts y 0 + 1))
+counted_next parts part k y counts some below old =
     let size = old.size in
     record {
       size = length-set counts y (get_or counts y 0 + 1) ∙ old.size;
       counted = λ x h.
-          let next = count-next k (λ i. is_in parts x (dart i)) in
-          let more : one_if (is_in parts x (dart k)) ≡ one_if (y == x) = ap (λ o. one_if (is_in parts x o)) some ∙ ap (λ z. one_if (z == x)) is_y in
+          let next = count-next k (λ i. is_in x (part i)) in
+          let more : one_if (is_in x (part k)) ≡ one_if (y == x) = ap (λ o. one_if (is_in x o)) some in
           let was = old.counted x h in
           elim (cases_eq x y) [
             | inl e ↦
@@ -127,59 +126,45 @@ counted_next parts dart k d y counts some is_y below old =
     }
 
 -- the same as a loop reads and writes it; a count that is read has room for one more
-pub counted_further : (parts : Numbers) (dart : ℕ → Option ℕ) (k d x v : ℕ) (counts : List ℕ) → dart k ≡ Some d → x ≡ get_or parts.of_darts d 0 → get_or parts.of_darts d 0 < parts.count → v ≡ get_or counts x v → AreCounted parts dart k counts
-    → AreCounted parts dart (k + 1) (slice_set counts x (v + 1))
-counted_further parts dart k d x v counts some x_is below read old =
+pub counted_further : (parts : ℕ) (part : ℕ → Option ℕ) (k y v : ℕ) (counts : List ℕ) → part k ≡ Some y → y < parts → v ≡ get_or counts y v → AreCounted parts part k counts → AreCounted parts part (k + 1) (slice_set counts y (v + 1))
+counted_further parts part k y v counts some below read old =
     let size = old.size in
-    let value : get_or counts x 0 ≡ v = sym (read ∙ get_or_default_zero counts x v (omega arith)) in
-    subst (λ n. AreCounted parts dart (k + 1) (slice_set counts x (n + 1))) value (counted_next parts dart k d x counts some (sym x_is) (omega arith) old)
+    let value : get_or counts y 0 ≡ v = sym (read ∙ get_or_default_zero counts y v (omega arith)) in
+    subst (λ n. AreCounted parts part (k + 1) (slice_set counts y (n + 1))) value (counted_next parts part k y counts some below old)
 
-pub counted_room : (parts : Numbers) (dart : ℕ → Option ℕ) (k x v : ℕ) (counts : List ℕ) → x < parts.count → v ≡ get_or counts x v → AreCounted parts dart k counts → v ≤ k
-counted_room parts dart k x v counts h read old =
+pub counted_room : (parts : ℕ) (part : ℕ → Option ℕ) (k y v : ℕ) (counts : List ℕ) → y < parts → v ≡ get_or counts y v → AreCounted parts part k counts → v ≤ k
+counted_room parts part k y v counts h read old =
     let size = old.size in
-    let was = old.counted x h in
-    let most = count-most k (λ i. is_in parts x (dart i)) in
-    let value = read ∙ get_or_default_zero counts x v (omega arith) in
+    let was = old.counted y h in
+    let most = count-most k (λ i. is_in y (part i)) in
+    let value = read ∙ get_or_default_zero counts y v (omega arith) in
     omega arith
 
--- a dart of each label, one dart further
-pub places_none : (Has : ℕ → ℕ → Type 0) (labels : ℕ) (darts : List (Option ℕ)) → darts ≡ replicate labels None → AreLabelDarts Has labels 0 darts
-places_none Has labels darts is =
-    record {
-      size = ap length is ∙ length-replicate labels None;
-      none = λ x d h lt e has. absurd (omega arith);
-      some = λ x d h e. not_both (number_at darts x) d _ (ap (λ xs. number_at xs x) is ∙ missing labels x) e;
-    }
-  where
-    missing : (n x : ℕ) → number_at (replicate n None) x ≡ None
-    missing zero x = refl
-    missing (suc n) zero = refl
-    missing (suc n) (suc x) = missing n x
-
-pub places_next : (Has : ℕ → ℕ → Type 0) (labels k y : ℕ) (darts : List (Option ℕ)) → y < labels → Has y k → ((x : ℕ) → x < labels → Has x k → x ≡ y) → AreLabelDarts Has labels k darts
-    → AreLabelDarts Has labels (k + 1) (slice_set darts y (Some k))
-places_next Has labels k y darts below here one old =
+-- the part of each label, one dart further
+pub places_next : (parts : Numbers) (Has : ℕ → ℕ → Type 0) (labels k y part : ℕ) (numbers : List (Option ℕ)) → y < labels → Has y k → part ≡ get_or parts.of_darts k 0 → ((x : ℕ) → x < labels → Has x k → x ≡ y) → AreLabelParts parts Has labels k numbers
+    → AreLabelParts parts Has labels (k + 1) (slice_set numbers y (Some part))
+places_next parts Has labels k y part numbers below here is_part one old =
     let size = old.size in
-    let at : number_at (slice_set darts y (Some k)) y ≡ Some k = get_or-set_same darts y (Some k) None (omega arith) in
+    let at : number_at (slice_set numbers y (Some part)) y ≡ Some part = get_or-set_same numbers y (Some part) None (omega arith) in
     record {
-      size = length-set darts y (Some k) ∙ old.size;
+      size = length-set numbers y (Some part) ∙ old.size;
       none = λ x d h lt e has. elim (cases_eq x y) [
-        | inl same ↦ not_both (number_at (slice_set darts y (Some k)) x) k _ e (ap (number_at (slice_set darts y (Some k))) same ∙ at)
+        | inl same ↦ not_both (number_at (slice_set numbers y (Some part)) x) part _ e (ap (number_at (slice_set numbers y (Some part))) same ∙ at)
         | inr ne ↦
-            let missing : number_at darts x ≡ None = sym (get_or-set_other darts y x (Some k) None ne) ∙ e in
+            let missing : number_at numbers x ≡ None = sym (get_or-set_other numbers y x (Some part) None ne) ∙ e in
             elim (cases_lt d k) [
               | inl before ↦ old.none x d h before missing has
               | inr after ↦ let is : d ≡ k = omega arith in ne (one x h (subst (Has x) is has))
             ]
       ];
-      some = λ x d h e. elim (cases_eq x y) [
+      some = λ x p h e. elim (cases_eq x y) [
         | inl same ↦
-            let is : Some k ≡ Some d = sym at ∙ ap (number_at (slice_set darts y (Some k))) (sym same) ∙ e in
-            let k_is : k ≡ d = cc in
-            (omega arith, subst (λ z. Has z d) (sym same) (subst (Has y) k_is here))
+            let is : Some part ≡ Some p = sym at ∙ ap (number_at (slice_set numbers y (Some part))) (sym same) ∙ e in
+            let part_is : part ≡ p = cc in
+            (k, omega arith, subst (λ z. Has z k) (sym same) here, sym is_part ∙ part_is)
         | inr ne ↦
-            let was = old.some x d h (sym (get_or-set_other darts y x (Some k) None ne) ∙ e) in
-            let lt : d < k = was.0 in
-            (omega arith, was.1)
+            let was = old.some x p h (sym (get_or-set_other numbers y x (Some part) None ne) ∙ e) in
+            let lt : was.0 < k = was.1 in
+            (was.0, omega arith, was.2, was.3)
       ];
     }

@@ -2,9 +2,11 @@ pub mod Entries
 pub mod Walking
 pub mod Numbered
 pub mod Counted
-pub mod Flooding
+pub mod Joining
+pub mod FirstRings
 pub mod Counting
 pub mod ComponentCounts
 pub mod LeastFailing
+pub mod OneFace
 pub mod PartsAre
 pub mod Lengths

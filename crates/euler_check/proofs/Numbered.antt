@@ -139,14 +139,6 @@ module _ (edges : List EdgeRow) (us : List ℤ) (part : ℤ → List ℤ) (p : I
     earlier = λ d x y h has lt. not_both (number_at numbers d) x _ (none d) has;
   }
 
-  -- where a dart has no number, its part has none
-  pub no_number : (k count : ℕ) (old : List (Option ℕ)) → k < 2 * length edges → FirstAreNumbered edges part k count old → number_at old k ≡ None
-      → (d : ℕ) → d < 2 * length edges → has_edge (part (signed_edge edges k)) (signed_edge edges d) ≡ true → number_at old d ≡ None
-  no_number k count old h before none d q on = elim (is_option (number_at old d)) [
-    | inl missing ↦ missing
-    | inr some ↦ not_both (number_at old k) some.0 _ none (before.whole d k some.0 q h some.1 (part_back k d h q on))
-  ]
-
   -- where it has a number already
   pub numbered_skip : (k count x : ℕ) (numbers : List (Option ℕ)) → FirstAreNumbered edges part k count numbers → number_at numbers k ≡ Some x → FirstAreNumbered edges part (k + 1) count numbers
   numbered_skip k count x numbers before has =

@@ -11,11 +11,11 @@ use Rattle.euler_check.specs.Marks.{number_at}
 use Rattle.euler_check.specs.Numbers.{Numbers, ArePartNumbers}
 use Rattle.euler_check.specs.declared.euler_counts.EulerCounts.{EulerCounts}
 
--- For each label, a dart that has it, or none where none of the first k darts has it.
-pub record AreLabelDarts (Has : ℕ → ℕ → Type 0) (labels k : ℕ) (darts : List (Option ℕ)) : Type 0 where
-  pub size : length darts ≡ labels
-  pub none : (x d : ℕ) → x < labels → d < k → number_at darts x ≡ None → Has x d → ⊥
-  pub some : (x d : ℕ) → x < labels → number_at darts x ≡ Some d → (d < k) × Has x d
+-- For each label, the number of the part of a dart that has it, or none where none of the first k darts has it.
+pub record AreLabelParts (parts : Numbers) (Has : ℕ → ℕ → Type 0) (labels k : ℕ) (numbers : List (Option ℕ)) : Type 0 where
+  pub size : length numbers ≡ labels
+  pub none : (x d : ℕ) → x < labels → d < k → number_at numbers x ≡ None → Has x d → ⊥
+  pub some : (x part : ℕ) → x < labels → number_at numbers x ≡ Some part → (d : ℕ) × (d < k) × Has x d × (slice_index parts.of_darts d ≡ part)
 
 -- a dart has this number
 abbrev pub HasNumber : Numbers → ℕ → ℕ → Type 0
@@ -30,15 +30,15 @@ unfoldable pub count_below : ℕ → (ℕ → Bool) → ℕ
 count_below zero p = 0
 count_below (suc n) p = let before = count_below n p in if p n then suc before else before
 
--- whether there is a dart, and it is in the part of this number
-abbrev pub is_in : Numbers → ℕ → Option ℕ → Bool
-is_in parts x None = false
-is_in parts x (Some d) = slice_index parts.of_darts d == x
+-- whether there is a part, and it has this number
+abbrev pub is_in : ℕ → Option ℕ → Bool
+is_in x None = false
+is_in x (Some part) = part == x
 
--- how many of the first n darts are in each part
-pub record AreCounted (parts : Numbers) (dart : ℕ → Option ℕ) (n : ℕ) (counts : List ℕ) : Type 0 where
-  pub size : length counts ≡ parts.count
-  pub counted : (x : ℕ) → x < parts.count → slice_index counts x ≡ count_below n (λ i. is_in parts x (dart i))
+-- how many of the first n are in each of so many parts
+pub record AreCounted (parts : ℕ) (part : ℕ → Option ℕ) (n : ℕ) (counts : List ℕ) : Type 0 where
+  pub size : length counts ≡ parts
+  pub counted : (x : ℕ) → x < parts → slice_index counts x ≡ count_below n (λ i. is_in x (part i))
 
 -- the count of each component, by its number
 pub record AreCountsOf (r : RotationRows) (how_many : PlaneMap → List ℤ → ℕ) (components : Numbers) (counts : List ℕ) : Type 0 where

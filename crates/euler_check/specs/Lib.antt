@@ -4,3 +4,4 @@ pub mod Labels
 pub mod Counts
 pub mod Parts
 pub mod Orbits
+pub mod Joined

@@ -1,5 +1,5 @@
 -- Darts that get their numbers part by part.
-use Rattle.std.specs.Prelude.{◌≡◌, ℕ, zero, suc, ◌+◌, ◌*◌, ◌<◌, ℤ, IsFalse, IsTrue, List, [], ◌∷◌, ◌++◌, length, Option, Some, None, slice_index_or, slice_set}
+use Rattle.std.specs.Prelude.{◌≡◌, ℕ, zero, suc, ◌+◌, ◌*◌, ◌<◌, ℤ, IsFalse, IsTrue, List, length, Option, Some, None, slice_index_or}
 use Rattle.plane_model.specs.declared.rows.EdgeRow.{EdgeRow}
 use Rattle.plane_model.specs.Sets.{has_edge}
 use Rattle.rotation_check.specs.Darts.{signed_edge}
@@ -30,8 +30,3 @@ pub record FirstAreNumbered (edges : List EdgeRow) (part : ℤ → List ℤ) (k 
   pub done : (d : ℕ) → d < k → (x : ℕ) × (number_at numbers d ≡ Some x)
   pub first : (x : ℕ) → x < count → (d : ℕ) × (d < k) × (number_at numbers d ≡ Some x) × ((e : ℕ) → e < d → number_at numbers e ≡ Some x → ⊥)
   pub earlier : (d x y : ℕ) → d < 2 * length edges → number_at numbers d ≡ Some x → y < x → (e : ℕ) × (e < d) × (number_at numbers e ≡ Some y)
-
--- a dart that had no number has got one and stands behind those that wait; where it had one nothing changes
-pub record IsReached (dart number : ℕ) (old new : List (Option ℕ)) (waiting_before waiting_after : List ℕ) : Type 0 where
-  pub known : (x : ℕ) → number_at old dart ≡ Some x → (new ≡ old) × (waiting_after ≡ waiting_before)
-  pub reached : number_at old dart ≡ None → (new ≡ slice_set old dart (Some number)) × (waiting_after ≡ waiting_before ++ (dart ∷ []))

@@ -12,7 +12,7 @@ ghost use Rattle.euler_check.specs.Parts.{AreParts, parts_fault};
 
 use crate::components::number_components;
 use crate::euler_counts::EulerCounts;
-use crate::labels::first_mixed_ring;
+use crate::labels::mixed_ring_of;
 use crate::numbering::PartNumbering;
 use crate::part_numbers::Parts;
 use crate::rings::number_rings;
@@ -43,11 +43,11 @@ pub fn parts(alloc: Global, rotation: &Rotation) -> Result<Parts, CheckFault>
     ensures exactly { is_none (parts_fault rotation.now)
         ≡ (is_labelled (map_of_rotation rotation.now) && is_plane (map_of_rotation rotation.now)) }
 {
-    if let Some(refusal) = first_mixed_ring(rotation) {
+    let rings = number_rings(alloc, rotation)?;
+    if let Some(refusal) = mixed_ring_of(alloc, rotation, &rings)? {
         return Err(CheckFault::Refused(refusal));
     }
-    let rings = number_rings(alloc, rotation)?;
-    let components = number_components(alloc, rotation)?;
+    let components = number_components(alloc, rotation, &rings)?;
     if let Some(refusal) = first_not_plane(alloc, rotation, &rings, &components)? {
         return Err(CheckFault::Refused(refusal));
     }

@@ -1,6 +1,6 @@
 //! How many nodes, edges and rings each component has.
 
-ghost use Rattle.std.specs.Prelude.{◌≡◌, ℕ, ◌*◌, ◌<◌, ◌^◌, IfOk, Some, length, replicate, slice_index};
+ghost use Rattle.std.specs.Prelude.{◌≡◌, ℕ, ◌*◌, ◌<◌, ◌^◌, IfOk, Some, length, replicate};
 ghost use Rattle.plane_model.specs.Component.{component, edge_count, node_count, ring_count};
 ghost use Rattle.plane_model.specs.PlaneMap.{ring};
 ghost use Rattle.rotation_check.specs.Darts.{map_of_rotation};
@@ -9,7 +9,7 @@ ghost use Rattle.euler_check.specs.Marks.{number_at};
 ghost use Rattle.euler_check.specs.Numbers.{ArePartNumbers};
 
 use crate::numbering::PartNumbering;
-use crate::places::{darts_of_nodes, darts_of_rings};
+use crate::places::{components_of_nodes, components_of_rings};
 use rotation_check::Rotation;
 use std::alloc::{AllocError, Global};
 use topo_base::{IdNumber, Refusal};
@@ -21,22 +21,16 @@ fn zeros(alloc: Global, parts: u32) -> Result<Vec<u32>, AllocError>
     vec![in alloc; 0; parts as usize]
 }
 
-/// How many of some darts are in each part, by its number.
-fn count_darts(
-    alloc: Global,
-    parts: &PartNumbering,
-    darts: &[Option<u32>],
-) -> Result<Vec<u32>, AllocError>
-    requires below { (d : ℕ) → d < length parts.now.of_darts → slice_index parts.now.of_darts d < parts.now.count }
-    requires within { (i d : ℕ) → i < length darts.now → number_at darts.now i ≡ Some d
-        → d < length parts.now.of_darts }
-    requires few { length darts.now < 2 ^ 32 }
-    ensures { IfOk result (λ counts. AreCounted parts.now (number_at darts.now) (length darts.now) counts.items) }
+/// How many times each of so many parts stands in a list, by its number.
+fn count_parts(alloc: Global, parts: u32, numbers: &[Option<u32>]) -> Result<Vec<u32>, AllocError>
+    requires below { (i x : ℕ) → i < length numbers.now → number_at numbers.now i ≡ Some x → x < parts }
+    requires few { length numbers.now < 2 ^ 32 }
+    ensures { IfOk result (λ counts. AreCounted parts (number_at numbers.now) (length numbers.now) counts.items) }
 {
-    let mut counts = zeros(alloc, parts.count())?;
-    for dart in darts {
-        if let Some(dart) = dart {
-            counts[parts.number(*dart) as usize] += 1;
+    let mut counts = zeros(alloc, parts)?;
+    for part in numbers {
+        if let Some(part) = part {
+            counts[*part as usize] += 1;
         }
     }
     Ok(counts)
@@ -51,8 +45,8 @@ fn count_nodes(
     requires { ArePartNumbers rotation.now.edges (component (map_of_rotation rotation.now)) components.now }
     ensures { IfOk result (λ counts. AreCountsOf rotation.now node_count components.now counts.items) }
 {
-    let darts = darts_of_nodes(alloc, rotation)?;
-    count_darts(alloc, components, &darts)
+    let numbers = components_of_nodes(alloc, rotation, components)?;
+    count_parts(alloc, components.count(), &numbers)
 }
 
 /// How many rings each component has, by its number.
@@ -66,8 +60,8 @@ fn count_rings(
     requires components { ArePartNumbers rotation.now.edges (component (map_of_rotation rotation.now)) components.now }
     ensures { IfOk result (λ counts. AreCountsOf rotation.now ring_count components.now counts.items) }
 {
-    let darts = darts_of_rings(alloc, rotation, rings)?;
-    count_darts(alloc, components, &darts)
+    let numbers = components_of_rings(alloc, rotation, rings, components)?;
+    count_parts(alloc, components.count(), &numbers)
 }
 
 /// How many edges each component has, by its number.

@@ -43,4 +43,11 @@ impl PartNumbering {
     {
         self.of_darts[dart as usize]
     }
+
+    /// The numbers of all darts, in order.
+    pub(crate) fn of_darts(&self) -> &[u32]
+        ensures { result.now ≡ self.now.of_darts }
+    {
+        &self.of_darts
+    }
 }

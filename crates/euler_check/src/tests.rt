@@ -47,10 +47,10 @@ fn has_parts(
     rings: (u32, &[u32]),
     components: (u32, &[u32]),
 ) -> Result<(), Fail> {
-    let found = number_rings(alloc, rotation)?;
-    assert_eq!(rt; found.count(), rings.0);
-    assert_eq!(rt; numbers(alloc, rotation, &found)?.as_slice(), rings.1);
-    let found = number_components(alloc, rotation)?;
+    let found_rings = number_rings(alloc, rotation)?;
+    assert_eq!(rt; found_rings.count(), rings.0);
+    assert_eq!(rt; numbers(alloc, rotation, &found_rings)?.as_slice(), rings.1);
+    let found = number_components(alloc, rotation, &found_rings)?;
     assert_eq!(rt; found.count(), components.0);
     assert_eq!(rt; numbers(alloc, rotation, &found)?.as_slice(), components.1);
     Ok(())

@@ -105,6 +105,9 @@ module _ (places : List ℕ) (are : IsPlacePermutation places) (stride : ℕ) wh
       | inr more ↦ more
     ]
 
+    pub members_left : (i : ℕ) → i < length (cycle places k) → get_or visited (get_or (cycle places k) i 0) false ≡ false
+    members_left i l = members_unvisited (get_or (cycle places k) i 0) (has_place (cycle places k) i l)
+
     pub members_fresh : (i : ℕ) → i < length (cycle places k) → get_or marks (get_or (cycle places k) i 0) None ≡ None
     members_fresh i l =
         let on = has_place (cycle places k) i l in

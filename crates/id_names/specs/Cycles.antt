@@ -10,6 +10,11 @@ pub record IsPlacePermutation (places : List ℕ) : Type 0 where
   pub below : (k : ℕ) → k < length places → slice_index places k < length places
   pub one : (j k : ℕ) → j < length places → k < length places → slice_index places j ≡ slice_index places k → j ≡ k
 
+-- the numbers by place: the one list undoes the other
+pub record AreInverse (places numbers : List ℕ) : Type 0 where
+  pub size : length numbers ≡ length places
+  pub undo : (k : ℕ) → k < length places → slice_index numbers (slice_index places k) ≡ k
+
 -- a number, its place, the place of that, and so on until the number comes again
 abbrev pub cycle : List ℕ → ℕ → List ℕ
 cycle places k = orbit (λ x y. x == y) (range_with_len 0 (length places)) (slice_index places) k

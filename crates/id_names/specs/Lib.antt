@@ -10,6 +10,7 @@ pub mod Known
 pub mod Searches
 pub mod Views
 pub mod Cycles
+pub mod Marker
 pub mod Making
 pub mod Numbered
 pub mod Worked

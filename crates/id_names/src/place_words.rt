@@ -3,7 +3,7 @@
 ghost use Rattle.std.specs.Prelude.{◌≡◌, ◌≤◌, map, filter_map, length, IfOk, is_some};
 ghost use Rattle.bit_words.specs.Bits.{HoldsBits};
 ghost use Rattle.rank_select.specs.Counts.{counts_of};
-ghost use Rattle.id_names.specs.Cycles.{IsPlacePermutation, marked, back_pointers};
+ghost use Rattle.id_names.specs.Cycles.{AreInverse, IsPlacePermutation, marked, back_pointers};
 ghost use Rattle.id_names.specs.Inverse.{stride};
 ghost use Rattle.id_names.specs.Making.{place_width, HoldsFields};
 
@@ -46,10 +46,15 @@ fn some_pointers(alloc: Global, pointers: &[Option<u32>]) -> Result<Vec<u32>, Al
         .collect(alloc)
 }
 
-/// The words of the places and of their inverse.
-pub(crate) fn place_words(alloc: Global, places: &[u32]) -> Result<PlaceWords, Memory>
+/// The words of the places and of their inverse, by the numbers at the places.
+pub(crate) fn place_words(
+    alloc: Global,
+    places: &[u32],
+    numbers: &[u32],
+) -> Result<PlaceWords, Memory>
     requires few { length places.now ≤ 16777216 }
     requires places { IsPlacePermutation places.now }
+    requires numbers { AreInverse places.now numbers.now }
     ensures places { IfOk result (λ words. HoldsFields words.places.items
         (place_width (length places.now)) places.now) }
     ensures marks { IfOk result (λ words. HoldsBits words.marks.items
@@ -63,7 +68,7 @@ pub(crate) fn place_words(alloc: Global, places: &[u32]) -> Result<PlaceWords, M
 {
     let width = binary_digits(places.len()).max(1);
     let stride = binary_digits(places.len() + 2);
-    let Ok(pointers) = cycle_marks(alloc, places, stride) else {
+    let Ok(pointers) = cycle_marks(alloc, places, numbers, stride) else {
         return Err(Memory);
     };
     let marks = mark_bits(alloc, &pointers)?;

@@ -9,7 +9,7 @@ pub mod Open
 pub mod Start
 pub mod Assembled
 pub mod Starts
-pub mod RisingDarts
+pub mod RingLeasts
 pub mod LeastDarts
 pub mod Rows
 pub mod FaceNumbers

@@ -8,7 +8,7 @@ ghost use Rattle.euler_check.specs.Numbers.{ArePartNumbers};
 ghost use Rattle.islands.specs.Darts.{AreDartsOf};
 ghost use Rattle.islands.specs.Rising.{IsFirstAdded};
 
-use crate::rising::rising_darts;
+use crate::rising::rising_rings;
 use euler_check::Parts;
 use rotation_check::Rotation;
 use std::alloc::{AllocError, Global};
@@ -37,7 +37,7 @@ fn add_first(
     Ok(())
 }
 
-/// The first darts of rings and components in the order of signed edges, which are their smallest.
+/// The smallest darts of rings and of components: a component's is the first among those of its rings.
 pub fn least_darts(
     alloc: Global,
     rotation: &Rotation,
@@ -52,19 +52,11 @@ pub fn least_darts(
     ensures components { IfOk result (λ least. AreDartsOf rotation.now.edges
         (components (map_of_rotation rotation.now)) least.components.items) }
 {
-    let darts = rising_darts(alloc, rotation)?;
-    let mut seen_rings = vec![in alloc; false; parts.rings() as usize]?;
-    let mut seen_components = vec![in alloc; false; parts.components() as usize]?;
-    let mut rings = Vec::new(alloc);
+    let rings = rising_rings(alloc, rotation, parts)?;
+    let mut seen = vec![in alloc; false; parts.components() as usize]?;
     let mut components = Vec::new(alloc);
-    for dart in &darts {
-        add_first(*dart, parts.ring_of(*dart), &mut seen_rings, &mut rings)?;
-        add_first(
-            *dart,
-            parts.component_of(*dart),
-            &mut seen_components,
-            &mut components,
-        )?;
+    for dart in &rings {
+        add_first(*dart, parts.component_of(*dart), &mut seen, &mut components)?;
     }
     Ok(LeastDarts { rings, components })
 }

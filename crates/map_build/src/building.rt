@@ -101,20 +101,34 @@ fn join(
     })
 }
 
-/// The parts of the image of consistent tables, or what is first wrong with the tables.
-fn image_parts(alloc: Global, tables: &Tables) -> Result<ImageParts, BuildFault>
+/// What the image of tables is made of.
+#[derive(Drop)]
+struct Gathered {
+    tour: Tour,
+    names: Names,
+    placed: Placed,
+    regions: RegionParts,
+}
+
+/// What the image of consistent tables is made of, or what is first wrong with the tables.
+fn gather(alloc: Global, tables: &Tables) -> Result<Gathered, BuildFault>
     requires in_range { IsTrue (is_in_range (rows_of tables.now)) }
     ensures consistent { OnOk result (IsTrue (is_consistent (rows_of tables.now))) }
-    ensures walk { IfOk result (λ parts. length parts.tree.items ≡ length parts.first.items) }
-    ensures contents { IfOk result (λ parts. contents_of_parts parts ≡ contents_of_map (map_of (rows_of tables.now))) }
+    ensures walk { IfOk result (λ g. length g.tour.tree.items ≡ length g.tour.first.items) }
+    ensures contents { IfOk result (λ g. joined_contents g.tour g.names g.placed g.regions
+        ≡ contents_of_map (map_of (rows_of tables.now))) }
     ensures refused { IfErr result (λ e. NamesFault e (first_fault (rows_of tables.now))) }
 {
     let walked = walk(alloc, tables)?;
     let regions = number_regions(alloc, tables)?;
     let names = name_walk(alloc, tables, &walked)?;
     let placed = place(alloc, tables, &walked, &names.faces, &regions.members)?;
-    let parts = join(alloc, walked.tour, names, placed, regions)?;
-    Ok(parts)
+    Ok(Gathered {
+        tour: walked.tour,
+        names,
+        placed,
+        regions,
+    })
 }
 
 /// The image of the map of tables, or why there is none. Its bytes are a function of the map alone: tables with the
@@ -128,10 +142,17 @@ pub fn build(alloc: Global, tables: Tables) -> Result<Vec<u8>, BuildFault>
     ensures refused { IfErr result (λ e. NamesFault e (first_fault (rows_of tables))) }
     ensures exactly { is_none (first_fault (rows_of tables)) ≡ is_consistent (rows_of tables) }
 {
-    // The tables are given back before the image is written, so that both are never held at once.
-    let parts = {
+    // The tables are given back before lists are joined and the image is written, so that these are never held at once.
+    let gathered = {
         let tables = tables;
-        image_parts(alloc, &tables)?
+        gather(alloc, &tables)?
     };
+    let Gathered {
+        tour,
+        names,
+        placed,
+        regions,
+    } = gathered;
+    let parts = join(alloc, tour, names, placed, regions)?;
     Ok(write_image(alloc, &parts)?)
 }

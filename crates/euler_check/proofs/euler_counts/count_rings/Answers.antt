@@ -6,18 +6,21 @@ use Rattle.euler_check.specs.Marks.{number_at}
 use Rattle.euler_check.proofs.ComponentCounts.{rings_counted_in}
 use Rattle.euler_check.proofs.euler_counts.count_rings.Goals as goal
 
-pub count_darts-requires-clause-within : goal.count_darts-requires-clause-within
-count_darts-requires-clause-within c = λ i d h has.
-    let places = c.in_ok-darts.ensures.places in
+pub count_parts-requires-clause-below : goal.count_parts-requires-clause-below
+count_parts-requires-clause-below c = λ i x h has.
+    let places = c.in_ok-numbers.ensures.places in
     let size = places.size in
     let l = ap length c.deref.ensures.value in
-    let within = (places.some i d (omega arith) (ap (λ xs. number_at xs i) (sym c.deref.ensures.value) ∙ has)).0 in
-    let all = c.requires.components.size in
+    let d = places.some i x (omega arith) (ap (λ xs. number_at xs i) (sym c.deref.ensures.value) ∙ has) in
+    let below = c.requires.components.below d.0 d.1 in
+    let is = d.3 in
+    let count = c.count.ensures in
     omega arith
 
 pub returns : goal.returns
 returns c =
-    IfOk-weaker c.count_darts.result (λ counts. AreCounted c.args.components.now (number_at c.deref.result.now) (length c.deref.result.now) counts.items) (λ counts. AreCountsOf c.args.rotation.now ring_count c.args.components.now counts.items)
-    (λ counts all. rings_counted_in c.args.rotation.now c.in_ok-darts.ensures.rotation c.args.components.now c.requires.components c.args.rings.now c.requires.rings c.in_ok-darts.darts.items counts.items c.in_ok-darts.ensures.places
-    (subst (λ xs. AreCounted c.args.components.now (number_at xs) (length xs) counts.items) c.deref.ensures.value all))
-    c.count_darts.ensures
+    IfOk-weaker c.count_parts.result (λ counts. AreCounted c.count.result (number_at c.deref.result.now) (length c.deref.result.now) counts.items) (λ counts. AreCountsOf c.args.rotation.now ring_count c.args.components.now counts.items)
+    (λ counts all. rings_counted_in c.args.rotation.now c.in_ok-numbers.ensures.rotation c.args.components.now c.requires.components c.args.rings.now c.requires.rings c.in_ok-numbers.numbers.items counts.items c.in_ok-numbers.ensures.places
+    (subst (λ n. AreCounted n (number_at c.in_ok-numbers.numbers.items) (length c.in_ok-numbers.numbers.items) counts.items) c.count.ensures
+    (subst (λ xs. AreCounted c.count.result (number_at xs) (length xs) counts.items) c.deref.ensures.value all)))
+    c.count_parts.ensures

@@ -7,6 +7,9 @@ use Rattle.file_laws.specs.MapOfFile.{rows_of_contents}
 use Rattle.map_build.proofs.OfMap.{map_whole, map_stands}
 use Rattle.map_build.proofs.building.build.Goals as goal
 
+pub returns-in_err-gathered-clause-exactly : goal.returns-in_err-gathered-clause-exactly
+returns-in_err-gathered-clause-exactly c = none-first_fault (rows_of c.args.tables) c.requires.in_range
+
 pub returns-in_err-parts-clause-exactly : goal.returns-in_err-parts-clause-exactly
 returns-in_err-parts-clause-exactly c = none-first_fault (rows_of c.args.tables) c.requires.in_range
 
@@ -17,10 +20,10 @@ pub returns-clause-exactly : goal.returns-clause-exactly
 returns-clause-exactly c = none-first_fault (rows_of c.args.tables) c.requires.in_range
 
 pub write_image-requires-clause-whole : goal.write_image-requires-clause-whole
-write_image-requires-clause-whole c = ap is_whole c.in_ok-parts.ensures.contents ∙ map_whole (rows_of c.args.tables) c.requires.in_range c.in_ok-parts.ensures.consistent
+write_image-requires-clause-whole c = ap is_whole (c.in_ok-parts.ensures.contents ∙ c.in_ok-gathered.ensures.contents) ∙ map_whole (rows_of c.args.tables) c.requires.in_range c.in_ok-gathered.ensures.consistent
 
 pub returns-clause-stands : goal.returns-clause-stands
 unfolding map_of_file
 returns-clause-stands c =
     let t = rows_of c.args.tables in
-    subst (λ x. Same (rows_of_contents x) t) (sym (c.in_ok-write_image.ensures.contents ∙ c.in_ok-parts.ensures.contents)) (map_stands t c.requires.in_range c.in_ok-parts.ensures.consistent)
+    subst (λ x. Same (rows_of_contents x) t) (sym (c.in_ok-write_image.ensures.contents ∙ (c.in_ok-parts.ensures.contents ∙ c.in_ok-gathered.ensures.contents))) (map_stands t c.requires.in_range c.in_ok-gathered.ensures.consistent)

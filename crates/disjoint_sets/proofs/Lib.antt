@@ -1,0 +1,4 @@
+pub mod Leading
+pub mod Numbering
+pub mod Joining
+pub mod SetLaws
