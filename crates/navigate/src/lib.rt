@@ -43,6 +43,3 @@ pub use positions::place_beside;
 pub use rounds::{node_walk, ring_walk};
 pub use several::{SEVERAL, Several};
 pub use upward::RegionWalk;
-
-#[cfg(test)]
-mod tests;

@@ -24,6 +24,3 @@ pub use opening::{open, open_lawful};
 pub use parts::ImageParts;
 pub use served::Served;
 pub use writing::{write_image, write_old_image};
-
-#[cfg(test)]
-mod tests;

@@ -15,6 +15,3 @@ mod walks;
 
 pub use fault::ServeFault;
 pub use serving::serve;
-
-#[cfg(test)]
-mod tests;
