@@ -15,69 +15,333 @@ use std::sync::ledger::{Blank, Ledger};
 use std::test::Fail;
 use topo_base::IdNumber;
 
-/// Four names in one cycle: 2, 3, 4, 1.
-fn four() -> Words {
-    Words {
-        count: 4,
-        low: 28,
-        marked: 2,
-        high: 15,
-        high_counts: 4 << 32,
-        lows: [216172782650654721, 4194304, 0],
-        places: 209,
-        marks: 9,
-        mark_counts: 2 << 32,
-        back: 3,
-    }
+/// Words, the ids that they name by number, and ids that they don't name.
+#[derive(Clone, Copy)]
+struct Named {
+    shows: &'static str,
+    words: Words,
+    ids: &'static [IdNumber],
+    others: &'static [IdNumber],
 }
+
+/// Words, and what `check` has to say of them: None where their sizes do not fit.
+#[derive(Clone, Copy)]
+struct Checked {
+    shows: &'static str,
+    words: Words,
+    said: Option<Result<(), NameFault>>,
+}
+
+/// Four names in one cycle: 2, 3, 4, 1.
+const FOUR: Words = Words {
+    count: 4,
+    low: 28,
+    marked: 2,
+    high: 15,
+    high_counts: 4 << 32,
+    lows: [216172782650654721, 4194304, 0],
+    places: 209,
+    marks: 9,
+    mark_counts: 2 << 32,
+    back: 3,
+};
 
 /// Five names in one cycle: 2, 3, 4, 5, 1.
-fn five() -> Words {
-    Words {
-        count: 5,
-        low: 28,
-        marked: 2,
-        high: 31,
-        high_counts: 5 << 32,
-        lows: [216172782650654721, 1407374887747584, 0],
-        places: 2257,
-        marks: 9,
-        mark_counts: 2 << 32,
-        back: 3,
-    }
-}
+const FIVE: Words = Words {
+    count: 5,
+    low: 28,
+    marked: 2,
+    high: 31,
+    high_counts: 5 << 32,
+    lows: [216172782650654721, 1407374887747584, 0],
+    places: 2257,
+    marks: 9,
+    mark_counts: 2 << 32,
+    back: 3,
+};
 
 /// Seven names in a cycle of five, which is marked, and one of two: 2, 3, 4, 5, 1 and 7, 6.
-fn seven() -> Words {
-    Words {
-        count: 7,
-        low: 27,
-        marked: 2,
-        high: 127,
-        high_counts: 7 << 32,
-        lows: [54043195796881409, 87960930746368, 120259085056],
-        places: 1509585,
-        marks: 17,
-        mark_counts: 2 << 32,
-        back: 4,
-    }
-}
+const SEVEN: Words = Words {
+    count: 7,
+    low: 27,
+    marked: 2,
+    high: 127,
+    high_counts: 7 << 32,
+    lows: [54043195796881409, 87960930746368, 120259085056],
+    places: 1509585,
+    marks: 17,
+    mark_counts: 2 << 32,
+    back: 4,
+};
 
 /// Nine names in one cycle, of which three are marked: 2, 3, 4, 5, 6, 7, 8, 9, 1.
-fn nine() -> Words {
-    Words {
-        count: 9,
-        low: 21,
-        marked: 3,
-        high: 511,
-        high_counts: 9 << 32,
-        lows: [13194143727617, 13835071249426939906, 9895608844289],
-        places: 2271560481,
-        marks: 273,
-        mark_counts: 3 << 32,
-        back: 1032,
-    }
-}
+const NINE: Words = Words {
+    count: 9,
+    low: 21,
+    marked: 3,
+    high: 511,
+    high_counts: 9 << 32,
+    lows: [13194143727617, 13835071249426939906, 9895608844289],
+    places: 2271560481,
+    marks: 273,
+    mark_counts: 3 << 32,
+    back: 1032,
+};
+
+/// Names whose high parts lie apart: 14, 3, 9.
+const SPREAD: Words = Words {
+    count: 3,
+    low: 2,
+    marked: 0,
+    high: 41,
+    high_counts: 3 << 32,
+    lows: [39, 0, 0],
+    places: 18,
+    marks: 0,
+    mark_counts: 0,
+    back: 0,
+};
+
+/// The one name 3, whose high part is the last.
+const LAST: Words = Words {
+    count: 1,
+    low: 1,
+    marked: 0,
+    high: 2,
+    high_counts: 1 << 32,
+    lows: [1, 0, 0],
+    places: 0,
+    marks: 0,
+    mark_counts: 0,
+    back: 0,
+};
+
+/// The greatest id of 63 bits.
+const GREATEST: Words = Words {
+    low: 62,
+    lows: [4611686018427387903, 0, 0],
+    ..LAST
+};
+
+const NAMED: [Named; 11] = [
+    Named {
+        shows: "three names, the last at its place",
+        words: Words {
+            low: 29,
+            high: 7,
+            lows: [864691129528877057, 0, 0],
+            places: 33,
+            ..SPREAD
+        },
+        ids: &[2, 1, 3],
+        others: &[0, 4, 2147483647],
+    },
+    Named {
+        shows: "four names in one cycle",
+        words: FOUR,
+        ids: &[2, 3, 4, 1],
+        others: &[0, 5, 268435457],
+    },
+    Named {
+        shows: "five names in one cycle",
+        words: FIVE,
+        ids: &[2, 3, 4, 5, 1],
+        others: &[0, 6, 4294967295],
+    },
+    Named {
+        shows: "a cycle of five and one of two",
+        words: SEVEN,
+        ids: &[2, 3, 4, 5, 1, 7, 6],
+        others: &[0, 8],
+    },
+    Named {
+        shows: "a mark without another",
+        words: NINE,
+        ids: &[2, 3, 4, 5, 6, 7, 8, 9, 1],
+        others: &[0, 10],
+    },
+    Named {
+        shows: "high parts that lie apart",
+        words: SPREAD,
+        ids: &[14, 3, 9],
+        others: &[1, 5, 8, 10, 13, 15, 16, 17],
+    },
+    Named {
+        shows: "the last high part",
+        words: LAST,
+        ids: &[3],
+        others: &[0, 1, 2, 4, 5, 7, 9223372036854775807],
+    },
+    Named {
+        shows: "no names",
+        words: Words {
+            count: 0,
+            low: 63,
+            high: 0,
+            high_counts: 0,
+            lows: [0, 0, 0],
+            ..LAST
+        },
+        ids: &[],
+        others: &[0, 1, 2147483648, 9223372036854775807, 18446744073709551615],
+    },
+    Named {
+        shows: "the greatest id of 31 bits",
+        words: Words {
+            low: 30,
+            lows: [1073741823, 0, 0],
+            ..LAST
+        },
+        ids: &[2147483647],
+        others: &[1073741823, 2147483646, 2147483648],
+    },
+    Named {
+        shows: "the greatest id of 63 bits",
+        words: GREATEST,
+        ids: &[9223372036854775807],
+        others: &[
+            0,
+            1,
+            2147483647,
+            4611686018427387903,
+            9223372036854775806,
+            9223372036854775808,
+            18446744073709551615,
+        ],
+    },
+    Named {
+        shows: "the least id, with low parts of 62 bits",
+        words: Words {
+            high: 1,
+            lows: [1, 0, 0],
+            ..GREATEST
+        },
+        ids: &[1],
+        others: &[0, 2, 4611686018427387905, 9223372036854775807],
+    },
+];
+
+const CHECKED: [Checked; 16] = [
+    Checked {
+        shows: "lawful names",
+        words: FOUR,
+        said: Some(Ok(())),
+    },
+    Checked {
+        shows: "sizes that do not fit",
+        words: Words { low: 61, ..FOUR },
+        said: None,
+    },
+    Checked {
+        shows: "a wrong count of high bits",
+        words: Words {
+            high_counts: 3 << 32,
+            ..FOUR
+        },
+        said: Some(Err(NameFault::HighCounts { at: 1 })),
+    },
+    Checked {
+        shows: "an id too few",
+        words: Words {
+            high: 7,
+            high_counts: 3 << 32,
+            ..FOUR
+        },
+        said: Some(Err(NameFault::Ones { found: 3 })),
+    },
+    Checked {
+        shows: "an id of 0",
+        words: Words {
+            lows: [0, 0, 0],
+            ..FOUR
+        },
+        said: Some(Err(NameFault::Rising { at: 0 })),
+    },
+    Checked {
+        shows: "an id twice",
+        words: Words {
+            lows: [268435457, 0, 0],
+            ..FOUR
+        },
+        said: Some(Err(NameFault::Rising { at: 1 })),
+    },
+    Checked {
+        shows: "an id that is too great",
+        words: Words {
+            high: 15 << 8,
+            ..FOUR
+        },
+        said: Some(Err(NameFault::Rising { at: 0 })),
+    },
+    Checked {
+        shows: "a high part too great",
+        words: Words { high: 4, ..LAST },
+        said: Some(Err(NameFault::Rising { at: 0 })),
+    },
+    Checked {
+        shows: "an id that is not below 2 ^ 63",
+        words: Words {
+            high: 4,
+            ..GREATEST
+        },
+        said: Some(Err(NameFault::Rising { at: 0 })),
+    },
+    Checked {
+        shows: "a wrong count of marks",
+        words: Words {
+            mark_counts: 3 << 32,
+            places: 212,
+            ..FOUR
+        },
+        said: Some(Err(NameFault::MarkCounts { at: 1 })),
+    },
+    Checked {
+        shows: "a mark too few",
+        words: Words {
+            marks: 1,
+            mark_counts: 1 << 32,
+            places: 212,
+            ..FOUR
+        },
+        said: Some(Err(NameFault::MarkOnes { found: 1 })),
+    },
+    Checked {
+        shows: "no such place",
+        words: Words {
+            places: 212,
+            ..FOUR
+        },
+        said: Some(Err(NameFault::Order { at: 0 })),
+    },
+    Checked {
+        shows: "a place of two",
+        words: Words {
+            places: 193,
+            ..FOUR
+        },
+        said: Some(Err(NameFault::Order { at: 1 })),
+    },
+    Checked {
+        shows: "a walk too far",
+        words: Words {
+            marked: 0,
+            marks: 0,
+            mark_counts: 0,
+            ..FIVE
+        },
+        said: Some(Err(NameFault::Order { at: 0 })),
+    },
+    Checked {
+        shows: "a pointer that does not lead back",
+        words: Words { back: 24, ..FIVE },
+        said: Some(Err(NameFault::Order { at: 0 })),
+    },
+    Checked {
+        shows: "a pointer to no number",
+        words: Words { back: 7, ..FIVE },
+        said: Some(Err(NameFault::Order { at: 3 })),
+    },
+];
 
 /// The names of an image, or the first fault. None where its sizes do not fit.
 fn open<'a, C: Ledger>(
@@ -191,293 +455,42 @@ fn told(alloc: Global, words: Words) -> Result<Option<Result<(), NameFault>>, Fa
     }
 }
 
+/// What the first words show that don't name what they have to.
+fn first_not_named(alloc: Global) -> Result<Option<&'static str>, Fail> {
+    for named in &NAMED {
+        if !agrees(alloc, named.words, named.ids, named.others)? {
+            return Ok(Some(named.shows));
+        }
+    }
+    Ok(None)
+}
+
+/// What the first words show of which `check` says something else.
+fn first_not_said(alloc: Global) -> Result<Option<&'static str>, Fail> {
+    for checked in &CHECKED {
+        if told(alloc, checked.words)? != checked.said {
+            return Ok(Some(checked.shows));
+        }
+    }
+    Ok(None)
+}
+
 #[test]
-fn names_in_cycles_are_asked_both_ways(rt: HostRuntime) -> Result<(), Fail> {
-    let alloc = rt.alloc();
-    let three = Words {
-        count: 3,
-        low: 29,
-        marked: 0,
-        high: 7,
-        high_counts: 3 << 32,
-        lows: [864691129528877057, 0, 0],
-        places: 33,
-        marks: 0,
-        mark_counts: 0,
-        back: 0,
-    };
-    assert!(rt; agrees(alloc, three, &[2, 1, 3], &[0, 4, 2147483647])?);
-    assert!(rt; agrees(alloc, four(), &[2, 3, 4, 1], &[0, 5, 268435457])?);
-    assert!(rt; agrees(alloc, five(), &[2, 3, 4, 5, 1], &[0, 6, 4294967295])?);
+fn names_are_asked_both_ways(rt: HostRuntime) -> Result<(), Fail> {
+    assert_eq!(rt; first_not_named(rt.alloc())?, None);
+    Ok(())
+}
+
+#[test]
+fn each_fault_is_named(rt: HostRuntime) -> Result<(), Fail> {
+    assert_eq!(rt; first_not_said(rt.alloc())?, None);
     Ok(())
 }
 
 #[test]
 fn long_and_short_cycles_need_no_walks(rt: HostRuntime) -> Result<(), Fail> {
-    let alloc = rt.alloc();
-    assert!(rt; agrees(alloc, seven(), &[2, 3, 4, 5, 1, 7, 6], &[0, 8])?);
-    assert!(rt; need_no_walks(alloc, seven())?);
-    Ok(())
-}
-
-#[test]
-fn a_mark_without_another_needs_no_walk(rt: HostRuntime) -> Result<(), Fail> {
-    let alloc = rt.alloc();
-    assert!(rt; agrees(alloc, nine(), &[2, 3, 4, 5, 6, 7, 8, 9, 1], &[0, 10])?);
-    assert!(rt; need_no_walks(alloc, nine())?);
-    Ok(())
-}
-
-#[test]
-fn high_parts_are_told_apart(rt: HostRuntime) -> Result<(), Fail> {
-    let alloc = rt.alloc();
-    let spread = Words {
-        count: 3,
-        low: 2,
-        marked: 0,
-        high: 41,
-        high_counts: 3 << 32,
-        lows: [39, 0, 0],
-        places: 18,
-        marks: 0,
-        mark_counts: 0,
-        back: 0,
-    };
-    assert!(rt; agrees(alloc, spread, &[14, 3, 9], &[1, 5, 8, 10, 13, 15, 16, 17])?);
-    let last = Words {
-        count: 1,
-        low: 1,
-        high: 2,
-        high_counts: 1 << 32,
-        lows: [1, 0, 0],
-        places: 0,
-        ..spread
-    };
-    assert!(rt; agrees(alloc, last, &[3], &[0, 1, 2, 4, 5, 7, 9223372036854775807])?);
-    let behind = Words { high: 4, ..last };
-    assert_eq!(rt;
-        told(alloc, behind)?,
-        Some(Err(NameFault::Rising { at: 0 })),
-        "a high part too great"
-    );
-    Ok(())
-}
-
-#[test]
-fn the_greatest_id_and_no_names_are_taken(rt: HostRuntime) -> Result<(), Fail> {
-    let alloc = rt.alloc();
-    let nothing = Words {
-        count: 0,
-        low: 31,
-        marked: 0,
-        high: 0,
-        high_counts: 0,
-        lows: [0, 0, 0],
-        places: 0,
-        marks: 0,
-        mark_counts: 0,
-        back: 0,
-    };
-    assert!(rt; agrees(alloc, nothing, &[], &[0, 1, 2147483647, 2147483648])?);
-    let greatest = Words {
-        count: 1,
-        low: 30,
-        high: 2,
-        high_counts: 1 << 32,
-        lows: [1073741823, 0, 0],
-        ..nothing
-    };
-    assert!(rt;
-        agrees(
-            alloc,
-            greatest,
-            &[2147483647],
-            &[1073741823, 2147483646, 2147483648]
-        )?
-    );
-    Ok(())
-}
-
-#[test]
-fn ids_of_63_bits_are_taken(rt: HostRuntime) -> Result<(), Fail> {
-    let alloc = rt.alloc();
-    let greatest = Words {
-        count: 1,
-        low: 62,
-        marked: 0,
-        high: 2,
-        high_counts: 1 << 32,
-        lows: [4611686018427387903, 0, 0],
-        places: 0,
-        marks: 0,
-        mark_counts: 0,
-        back: 0,
-    };
-    let others = [
-        0,
-        1,
-        2147483647,
-        4611686018427387903,
-        9223372036854775806,
-        9223372036854775808,
-        18446744073709551615,
-    ];
-    assert!(rt; agrees(alloc, greatest, &[9223372036854775807], &others)?);
-    let least = Words {
-        high: 1,
-        lows: [1, 0, 0],
-        ..greatest
-    };
-    assert!(rt;
-        agrees(
-            alloc,
-            least,
-            &[1],
-            &[0, 2, 4611686018427387905, 9223372036854775807]
-        )?
-    );
-    let behind = Words {
-        high: 4,
-        ..greatest
-    };
-    assert_eq!(rt;
-        told(alloc, behind)?,
-        Some(Err(NameFault::Rising { at: 0 })),
-        "not below 2 ^ 63"
-    );
-    let nothing = Words {
-        count: 0,
-        low: 63,
-        high: 0,
-        high_counts: 0,
-        ..greatest
-    };
-    assert!(rt;
-        agrees(
-            alloc,
-            nothing,
-            &[],
-            &[0, 1, 9223372036854775807, 18446744073709551615]
-        )?
-    );
-    Ok(())
-}
-
-#[test]
-fn each_fault_of_the_ids_is_named(rt: HostRuntime) -> Result<(), Fail> {
-    let alloc = rt.alloc();
-    assert_eq!(rt; told(alloc, four())?, Some(Ok(())));
-    assert_eq!(rt;
-        told(alloc, Words { low: 61, ..four() })?,
-        None,
-        "sizes that do not fit"
-    );
-    let counts = Words {
-        high_counts: 3 << 32,
-        ..four()
-    };
-    assert_eq!(rt;
-        told(alloc, counts)?,
-        Some(Err(NameFault::HighCounts { at: 1 }))
-    );
-    let ones = Words {
-        high: 7,
-        high_counts: 3 << 32,
-        ..four()
-    };
-    assert_eq!(rt; told(alloc, ones)?, Some(Err(NameFault::Ones { found: 3 })));
-    let nought = Words {
-        lows: [0, 0, 0],
-        ..four()
-    };
-    assert_eq!(rt;
-        told(alloc, nought)?,
-        Some(Err(NameFault::Rising { at: 0 })),
-        "an id of 0"
-    );
-    let twice = Words {
-        lows: [268435457, 0, 0],
-        ..four()
-    };
-    assert_eq!(rt;
-        told(alloc, twice)?,
-        Some(Err(NameFault::Rising { at: 1 })),
-        "an id twice"
-    );
-    let great = Words {
-        high: 15 << 8,
-        ..four()
-    };
-    assert_eq!(rt;
-        told(alloc, great)?,
-        Some(Err(NameFault::Rising { at: 0 })),
-        "too great"
-    );
-    Ok(())
-}
-
-#[test]
-fn each_fault_of_the_numbers_is_named(rt: HostRuntime) -> Result<(), Fail> {
-    let alloc = rt.alloc();
-    let counts = Words {
-        mark_counts: 3 << 32,
-        places: 212,
-        ..four()
-    };
-    assert_eq!(rt;
-        told(alloc, counts)?,
-        Some(Err(NameFault::MarkCounts { at: 1 }))
-    );
-    let ones = Words {
-        marks: 1,
-        mark_counts: 1 << 32,
-        places: 212,
-        ..four()
-    };
-    assert_eq!(rt;
-        told(alloc, ones)?,
-        Some(Err(NameFault::MarkOnes { found: 1 }))
-    );
-    let none = Words {
-        places: 212,
-        ..four()
-    };
-    assert_eq!(rt;
-        told(alloc, none)?,
-        Some(Err(NameFault::Order { at: 0 })),
-        "no such place"
-    );
-    let shared = Words {
-        places: 193,
-        ..four()
-    };
-    assert_eq!(rt;
-        told(alloc, shared)?,
-        Some(Err(NameFault::Order { at: 1 })),
-        "a place of two"
-    );
-    let unmarked = Words {
-        marked: 0,
-        marks: 0,
-        mark_counts: 0,
-        ..five()
-    };
-    assert_eq!(rt;
-        told(alloc, unmarked)?,
-        Some(Err(NameFault::Order { at: 0 })),
-        "too far"
-    );
-    let forward = Words { back: 24, ..five() };
-    assert_eq!(rt;
-        told(alloc, forward)?,
-        Some(Err(NameFault::Order { at: 0 })),
-        "not back"
-    );
-    let outside = Words { back: 7, ..five() };
-    assert_eq!(rt;
-        told(alloc, outside)?,
-        Some(Err(NameFault::Order { at: 3 })),
-        "to no number"
-    );
+    for words in [SEVEN, NINE] {
+        assert!(rt; need_no_walks(rt.alloc(), words)?);
+    }
     Ok(())
 }

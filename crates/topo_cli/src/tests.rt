@@ -36,10 +36,15 @@ struct Case<'a> {
     out: &'static str,
 }
 
+const TRIANGLE_NODES: &str = "node_id,containing_face\n1,\n2,\n3,\n";
+
+const TRIANGLE_EDGES: &str =
+    "edge_id,start_node,end_node,next_left_edge,next_right_edge,left_face,right_face\n\
+            1,1,2,2,-3,1,0\n2,2,3,3,-1,1,0\n3,3,1,1,-2,1,0\n";
+
 const TRIANGLE: Folder<'static> = Folder {
-    nodes: "node_id,containing_face\n1,\n2,\n3,\n",
-    edges: "edge_id,start_node,end_node,next_left_edge,next_right_edge,left_face,right_face\n\
-            1,1,2,2,-3,1,0\n2,2,3,3,-1,1,0\n3,3,1,1,-2,1,0\n",
+    nodes: TRIANGLE_NODES,
+    edges: TRIANGLE_EDGES,
     faces: Some("face_id\n0\n1\n"),
 };
 
@@ -765,39 +770,67 @@ fn region_id(number: u32) -> u32
     number * 617 % 1009
 }
 
-/// Edge k goes round face k. The parent of region k is region k / 10, and most faces are in a region.
-fn many_regions(alloc: Global) -> Result<ManyRegions, AllocError> {
-    let mut nodes = String::from_str(alloc, "node_id,containing_face\n")?;
-    let mut edges = String::from_str(
-        alloc,
-        "edge_id,start_node,end_node,next_left_edge,next_right_edge,left_face,right_face\n",
-    )?;
-    let mut faces = String::from_str(alloc, "face_id\n")?;
-    let mut regions = String::from_str(alloc, "region_id,parent\n")?;
-    let mut members = String::from_str(alloc, "region_id,face_id\n631,0\n")?;
-    for k in 1..1001 {
-        nodes.push_str(format!(in alloc; "{k},\n")?.as_str())?;
-        edges.push_str(format!(in alloc; "{k},{k},{k},{k},-{k},{k},0\n")?.as_str())?;
-        faces.push_str(format!(in alloc; "{k}\n")?.as_str())?;
-        let region = region_id(k);
-        if k < 10 {
-            regions.push_str(format!(in alloc; "{region},\n")?.as_str())?;
-        } else {
-            let parent = region_id(k / 10);
-            regions.push_str(format!(in alloc; "{region},{parent}\n")?.as_str())?;
-        }
-        if k % 11 != 0 {
-            let region = region_id(k * 391 % 1000 + 1);
-            members.push_str(format!(in alloc; "{region},{k}\n")?.as_str())?;
-        }
+/// The parent of region k is region k / 10.
+fn region_row(alloc: Global, k: u32) -> Result<String, AllocError>
+    requires { k ≤ 1000 }
+{
+    let region = region_id(k);
+    if k < 10 {
+        return format!(in alloc; "{region},\n");
     }
+    let parent = region_id(k / 10);
+    format!(in alloc; "{region},{parent}\n")
+}
+
+/// Some region that face k is in.
+fn member_row(alloc: Global, k: u32) -> Result<String, AllocError>
+    requires { k ≤ 1000 }
+{
+    let region = region_id(k * 391 % 1000 + 1);
+    format!(in alloc; "{region},{k}\n")
+}
+
+fn add_row(table: &mut String, row: Result<String, AllocError>) -> Result<(), AllocError> {
+    table.push_str(row?.as_str())
+}
+
+/// Tables of one face that is in a region.
+fn one_member(alloc: Global) -> Result<ManyRegions, AllocError> {
     Ok(ManyRegions {
-        nodes,
-        edges,
-        faces,
-        regions,
-        members,
+        nodes: String::from_str(alloc, "node_id,containing_face\n")?,
+        edges: String::from_str(
+            alloc,
+            "edge_id,start_node,end_node,next_left_edge,next_right_edge,left_face,right_face\n",
+        )?,
+        faces: String::from_str(alloc, "face_id\n")?,
+        regions: String::from_str(alloc, "region_id,parent\n")?,
+        members: String::from_str(alloc, "region_id,face_id\n631,0\n")?,
     })
+}
+
+/// Edge k goes round face k. Most faces are in a region.
+fn add_rows(alloc: Global, tables: &mut ManyRegions, k: u32) -> Result<(), AllocError>
+    requires { k ≤ 1000 }
+{
+    add_row(&mut tables.nodes, format!(in alloc; "{k},\n"))?;
+    add_row(
+        &mut tables.edges,
+        format!(in alloc; "{k},{k},{k},{k},-{k},{k},0\n"),
+    )?;
+    add_row(&mut tables.faces, format!(in alloc; "{k}\n"))?;
+    add_row(&mut tables.regions, region_row(alloc, k))?;
+    if k % 11 != 0 {
+        add_row(&mut tables.members, member_row(alloc, k))?;
+    }
+    Ok(())
+}
+
+fn many_regions(alloc: Global) -> Result<ManyRegions, AllocError> {
+    let mut tables = one_member(alloc)?;
+    for k in 1..1001 {
+        add_rows(alloc, &mut tables, k)?;
+    }
+    Ok(tables)
 }
 
 /// Whether a map of many regions is answered as it has to be.
@@ -876,6 +909,26 @@ fn faults_of_the_outside_end_the_run(rt: HostRuntime) -> Result<(), Fail> {
 
 const FOLDER: &str = "topo_cli_test_folder";
 
+/// The tables of the triangle in a region, in that folder.
+const IN_REGION: [(&str, &str); 5] = [
+    ("topo_cli_test_folder/node.csv", TRIANGLE_NODES),
+    ("topo_cli_test_folder/edge.csv", TRIANGLE_EDGES),
+    ("topo_cli_test_folder/face.csv", "face_id\n0\n1\n"),
+    ("topo_cli_test_folder/region.csv", "region_id,parent\n1,\n"),
+    (
+        "topo_cli_test_folder/member.csv",
+        "region_id,face_id\n1,1\n",
+    ),
+];
+
+/// Writes these texts under these paths of the system.
+fn write_files(rt: &HostRuntime, files: &[(&str, &str)]) -> Result<(), Fail> {
+    for &(path, text) in files {
+        fs::write(rt, path, text)?;
+    }
+    Ok(())
+}
+
 /// The triangle's answer from a folder of the system.
 fn answers_from_files<L: Ledger>(rt: &HostRuntime, blank: Blank) -> Result<(Status, Vec<u8>), Fail>
     requires name { blank.name ≡ L.name }
@@ -902,25 +955,12 @@ fn answers_from_files<L: Ledger>(rt: &HostRuntime, blank: Blank) -> Result<(Stat
 fn files_of_the_system_are_answered(rt: HostRuntime) -> Result<(), Fail> {
     let _ = fs::remove_dir_all(&rt, FOLDER);
     fs::create_dir(&rt, FOLDER)?;
-    fs::write(&rt, "topo_cli_test_folder/node.csv", TRIANGLE.nodes)?;
-    fs::write(&rt, "topo_cli_test_folder/edge.csv", TRIANGLE.edges)?;
-    fs::write(&rt, "topo_cli_test_folder/face.csv", "face_id\n0\n1\n")?;
-    fs::write(
-        &rt,
-        "topo_cli_test_folder/region.csv",
-        "region_id,parent\n1,\n",
-    )?;
-    fs::write(
-        &rt,
-        "topo_cli_test_folder/member.csv",
-        "region_id,face_id\n1,1\n",
-    )?;
+    write_files(&rt, &IN_REGION)?;
     let (status, out) = answers_from_files::<Brand>(&rt, Blank::new(1))?;
     fs::remove_dir_all(&rt, FOLDER)?;
-    assert_eq!(rt; status, Status::Done);
     let wanted =
         b"ring 1: 1 2 3\nring -2: -2 -1 -3\nring 9: unknown\nface 1: 1 2 3\nregions 1: 1\n";
-    assert_eq!(rt; out.as_slice(), wanted.as_slice());
+    assert_eq!(rt; (status, out.as_slice()), (Status::Done, wanted.as_slice()));
     Ok(())
 }
 
@@ -1170,43 +1210,76 @@ fn builds_well<L: Ledger>(
 /// A dump of the triangle's file.
 const DUMP: [&str; 3] = ["dump", "old.pemb", "maps"];
 
+/// What is told of it, and of the build of what it wrote.
+const DUMPED_AND_BUILT: [Told; 2] = [
+    Told {
+        words: &DUMP,
+        status: Status::Done,
+        out: "dumped 3 3 1 1 0\n",
+    },
+    Told {
+        words: &BUILD,
+        status: Status::Done,
+        out: "built 3 3 1 1 0\n",
+    },
+];
+
+/// The tables that it writes.
+const DUMPED: [(&str, &str); 5] = [
+    ("maps/node.csv", TRIANGLE_NODES),
+    ("maps/edge.csv", TRIANGLE_EDGES),
+    ("maps/face.csv", "face_id\n1\n"),
+    ("maps/region.csv", "region_id,parent\n"),
+    ("maps/member.csv", "region_id,face_id\n"),
+];
+
+/// A shelf that holds the triangle's file in form 1.
+fn shelf_of_old_file(alloc: Global, failing: &[u64]) -> Result<MemoryShelf<'_>, Fail> {
+    let mut shelf = MemoryShelf::new(alloc, failing);
+    shelf.add("old.pemb", &bytes_of(alloc, &old_triangle())?)?;
+    Ok(shelf)
+}
+
+/// Whether a shelf holds these texts under these paths.
+fn holds_files(shelf: &MemoryShelf<'_>, files: &[(&str, &str)]) -> bool {
+    for &(path, text) in files {
+        if shelf.file(path) != Some(text.as_bytes()) {
+            return false;
+        }
+    }
+    true
+}
+
+/// Whether a file holds a front of this text, and not all of it.
+fn is_cut(file: Option<&[u8]>, text: &str) -> bool {
+    match file {
+        Some(part) => part.len() < text.len() && text.as_bytes().starts_with(part),
+        None => false,
+    }
+}
+
 /// Whether the triangle's tables are written as they were, and built into its file again.
 fn dumps_well<L: Ledger>(alloc: Global, steps: &mut Steps<L>) -> Result<bool, Fail> {
-    let mut shelf = MemoryShelf::new(alloc, &[]);
-    shelf.add("old.pemb", &bytes_of(alloc, &old_triangle())?)?;
-    let mut out = MemorySink::new(alloc, &[]);
-    let dumped = run_unasked(alloc, &DUMP, &mut shelf, &mut out, steps)?;
-    let built = run_unasked(alloc, &BUILD, &mut shelf, &mut out, steps)?;
-    let told = b"dumped 3 3 1 1 0\nbuilt 3 3 1 1 0\n";
+    let mut shelf = shelf_of_old_file(alloc, &[])?;
     Ok(
-        dumped == Status::Done
-            && built == Status::Done
-            && out.bytes() == told.as_slice()
-            && shelf.file("maps/node.csv") == Some(TRIANGLE.nodes.as_bytes())
-            && shelf.file("maps/edge.csv") == Some(TRIANGLE.edges.as_bytes())
-            && shelf.file("maps/face.csv") == Some(b"face_id\n1\n".as_slice())
-            && shelf.file("maps/region.csv") == Some(b"region_id,parent\n".as_slice())
-            && shelf.file("maps/member.csv") == Some(b"region_id,face_id\n".as_slice())
+        all_told_well(alloc, &DUMPED_AND_BUILT, &mut shelf, steps)?
+            && holds_files(&shelf, &DUMPED)
             && holds_front(alloc, shelf.file("map.pemb"), Some(432))?,
     )
 }
 
 /// Whether a dump whose second table is written in part leaves the first one whole, and starts no third.
 fn dumps_in_part<L: Ledger>(alloc: Global, steps: &mut Steps<L>) -> Result<bool, Fail> {
-    let mut shelf = MemoryShelf::new(alloc, &[6]);
-    shelf.add("old.pemb", &bytes_of(alloc, &old_triangle())?)?;
-    let mut out = MemorySink::new(alloc, &[]);
-    let dumped = run_unasked(alloc, &DUMP, &mut shelf, &mut out, steps)?;
-    let held = match shelf.file("maps/edge.csv") {
-        Some(part) => {
-            part.len() < TRIANGLE.edges.len() && TRIANGLE.edges.as_bytes().starts_with(part)
-        }
-        None => false,
+    let mut shelf = shelf_of_old_file(alloc, &[6])?;
+    let told = Told {
+        words: &DUMP,
+        status: Status::WriteFault,
+        out: "",
     };
     Ok(
-        held && dumped == Status::WriteFault
-            && out.bytes().is_empty()
-            && shelf.file("maps/node.csv") == Some(TRIANGLE.nodes.as_bytes())
+        tells_well(alloc, &told, &mut shelf, steps)?
+            && is_cut(shelf.file("maps/edge.csv"), TRIANGLE_EDGES)
+            && holds_files(&shelf, &DUMPED[..1])
             && shelf.file("maps/face.csv").is_none(),
     )
 }
@@ -1839,6 +1912,21 @@ fn is_built_again(shelf: &MemoryShelf<'_>) -> bool {
     }
 }
 
+/// Whether the island is answered as it has to be by each of these words.
+fn answers_isle<L: Ledger>(
+    alloc: Global,
+    words: &[[&str; 2]],
+    shelf: &mut MemoryShelf<'_>,
+    steps: &mut Steps<L>,
+) -> Result<bool, Fail> {
+    for words in words {
+        if !answers_well(alloc, words, &ISLE_WITH_REGIONS, shelf, steps)? {
+            return Ok(false);
+        }
+    }
+    Ok(true)
+}
+
 /// Whether the island's file in form 1 is answered as its tables are, walked as it has to be, and answered the same
 /// once it is upgraded; and whether its tables are dumped, answered and built again.
 fn answers_old_isle<L: Ledger>(alloc: Global, blank: Blank) -> Result<bool, Fail>
@@ -1850,14 +1938,12 @@ fn answers_old_isle<L: Ledger>(alloc: Global, blank: Blank) -> Result<bool, Fail
         return Ok(false);
     };
     let mut steps = Steps::<L>::new(alloc, blank);
-    let words = ["query", "map.pemb"];
-    let upgraded = ["query", "new.pemb"];
-    let dumped = ["ask", "maps"];
+    let before = [["query", "map.pemb"]];
+    let after = [["query", "new.pemb"], ["ask", "maps"]];
     Ok(
-        answers_well(alloc, &words, &ISLE_WITH_REGIONS, &mut shelf, &mut steps)?
+        answers_isle(alloc, &before, &mut shelf, &mut steps)?
             && all_told_well(alloc, &TOLD, &mut shelf, &mut steps)?
-            && answers_well(alloc, &upgraded, &ISLE_WITH_REGIONS, &mut shelf, &mut steps)?
-            && answers_well(alloc, &dumped, &ISLE_WITH_REGIONS, &mut shelf, &mut steps)?
+            && answers_isle(alloc, &after, &mut shelf, &mut steps)?
             && is_built_again(&shelf),
     )
 }
@@ -1872,40 +1958,49 @@ const BUILD_FOLDER: &str = "topo_cli_test_build";
 
 const BUILT_FILE: &str = "topo_cli_test_build/map.pemb";
 
-/// The triangle built from a folder of the system into a file of the system, which is then checked.
-fn built_and_checked<L: Ledger>(
+/// The tables of the triangle in that folder.
+const ALONE: [(&str, &str); 3] = [
+    ("topo_cli_test_build/node.csv", TRIANGLE_NODES),
+    ("topo_cli_test_build/edge.csv", TRIANGLE_EDGES),
+    ("topo_cli_test_build/face.csv", "face_id\n0\n1\n"),
+];
+
+/// How words over files of the system end, and what they tell.
+fn told_of_files<L: Ledger>(
     rt: &HostRuntime,
-    blank: Blank,
-) -> Result<(Status, Status, Vec<u8>), Fail>
+    words: &[&str],
+    steps: &mut Steps<L>,
+) -> Result<(Status, Vec<u8>), Fail> {
+    let mut shelf = FileShelf::new(rt);
+    let mut out = StdSink::new(Vec::new(rt.alloc()));
+    let status = run_unasked(rt.alloc(), words, &mut shelf, &mut out, steps)?;
+    Ok((status, out.into_inner()))
+}
+
+/// Whether the triangle is built from a folder of the system into a file of the system, which is lawful.
+fn built_and_checked<L: Ledger>(rt: &HostRuntime, blank: Blank) -> Result<bool, Fail>
     requires name { blank.name ≡ L.name }
     requires parts { blank.parts ≡ L.parts }
     requires some { 0 < blank.parts }
 {
-    let alloc = rt.alloc();
-    let mut shelf = FileShelf::new(rt);
-    let mut out = StdSink::new(Vec::new(alloc));
-    let mut steps = Steps::<L>::new(alloc, blank);
-    let words = ["build", BUILD_FOLDER, BUILT_FILE];
-    let built = run_unasked(alloc, &words, &mut shelf, &mut out, &mut steps)?;
-    let words = ["check", BUILT_FILE];
-    let checked = run_unasked(alloc, &words, &mut shelf, &mut out, &mut steps)?;
-    Ok((built, checked, out.into_inner()))
+    let mut steps = Steps::<L>::new(rt.alloc(), blank);
+    let (built, line) = told_of_files(rt, &["build", BUILD_FOLDER, BUILT_FILE], &mut steps)?;
+    let (checked, lawful) = told_of_files(rt, &["check", BUILT_FILE], &mut steps)?;
+    Ok(
+        (built, checked) == (Status::Done, Status::Done)
+            && line.as_slice() == b"built 3 3 1 1 0\n".as_slice()
+            && lawful.as_slice() == b"lawful 3 3 1 1 0\n".as_slice(),
+    )
 }
 
 #[test]
 fn files_of_the_system_are_built_and_checked(rt: HostRuntime) -> Result<(), Fail> {
     let _ = fs::remove_dir_all(&rt, BUILD_FOLDER);
     fs::create_dir(&rt, BUILD_FOLDER)?;
-    fs::write(&rt, "topo_cli_test_build/node.csv", TRIANGLE.nodes)?;
-    fs::write(&rt, "topo_cli_test_build/edge.csv", TRIANGLE.edges)?;
-    fs::write(&rt, "topo_cli_test_build/face.csv", "face_id\n0\n1\n")?;
-    let (built, checked, out) = built_and_checked::<Brand>(&rt, Blank::new(1))?;
-    let image = fs::read(&rt, BUILT_FILE);
+    write_files(&rt, &ALONE)?;
+    assert!(rt; built_and_checked::<Brand>(&rt, Blank::new(1))?);
+    let image = fs::read(&rt, BUILT_FILE)?;
     fs::remove_dir_all(&rt, BUILD_FOLDER)?;
-    assert_eq!(rt; (built, checked), (Status::Done, Status::Done));
-    let wanted = b"built 3 3 1 1 0\nlawful 3 3 1 1 0\n";
-    assert_eq!(rt; out.as_slice(), wanted.as_slice());
-    let image = image?;
     assert!(rt; holds_front(rt.alloc(), Some(&image), Some(432))?);
     Ok(())
 }
@@ -1969,6 +2064,19 @@ fn queries_leave_fronts_of_answers(rt: HostRuntime) -> Result<(), Fail> {
     Ok(())
 }
 
+/// Sizes of grids, and what `trial` writes of them.
+const TRIALS: [(&str, &str); 3] = [
+    (
+        "1",
+        "trial 1\ncounts 4 4 1 1 0\nface 8\nnode 8\nadjacent 2\n",
+    ),
+    (
+        "300",
+        "trial 300\ncounts 111639 193457 102857 12858 0\nface 386914\nnode 386914\nadjacent 386906\n",
+    ),
+    ("1001", "usage\n"),
+];
+
 /// Whether `trial` writes this of the grid of a size.
 fn tries<L: Ledger>(
     alloc: Global,
@@ -1989,14 +2097,12 @@ fn tries_well<L: Ledger>(alloc: Global, blank: Blank) -> Result<bool, Fail>
     requires some { 0 < blank.parts }
 {
     let mut steps = Steps::<L>::new(alloc, blank);
-    let one = "trial 1\ncounts 4 4 1 1 0\nface 8\nnode 8\nadjacent 2\n";
-    let large =
-        "trial 300\ncounts 111639 193457 102857 12858 0\nface 386914\nnode 386914\nadjacent 386906\n";
-    Ok(
-        tries(alloc, "1", one, &mut steps)?
-            && tries(alloc, "300", large, &mut steps)?
-            && tries(alloc, "1001", "usage\n", &mut steps)?,
-    )
+    for &(size, wanted) in &TRIALS {
+        if !tries(alloc, size, wanted, &mut steps)? {
+            return Ok(false);
+        }
+    }
+    Ok(true)
 }
 
 #[test]

@@ -3,7 +3,7 @@
 ghost use Rattle.std.specs.Prelude.{◌≡◌, ◌<◌};
 
 use crate::Status;
-use crate::tests::{Case, Folder, answers_well, shelf_of};
+use crate::tests::{Case, Folder, add_row, answers_well, shelf_of};
 use bit_words::Steps;
 use std::alloc::{AllocError, Global};
 use std::marker::Brand;
@@ -27,8 +27,11 @@ fn ring(alloc: Global) -> Result<RingTables, AllocError> {
     for k in 1..1_000_001 {
         let after = k % 1_000_000 + 1;
         let before = (k + 999_998) % 1_000_000 + 1;
-        nodes.push_str(format!(in alloc; "{k},\n")?.as_str())?;
-        edges.push_str(format!(in alloc; "{k},{k},{after},{after},-{before},1,0\n")?.as_str())?;
+        add_row(&mut nodes, format!(in alloc; "{k},\n"))?;
+        add_row(
+            &mut edges,
+            format!(in alloc; "{k},{k},{after},{after},-{before},1,0\n"),
+        )?;
     }
     Ok(RingTables { nodes, edges })
 }
