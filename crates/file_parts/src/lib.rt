@@ -14,4 +14,8 @@ pub use laws::walk_of_a_code;
 pub use upgrade::upgraded;
 
 #[cfg(test)]
+mod opened;
+#[cfg(test)]
 mod tests;
+#[cfg(test)]
+mod written;

@@ -24,3 +24,5 @@ mod many_holes;
 mod maps;
 #[cfg(test)]
 mod tests;
+#[cfg(test)]
+mod walks;

@@ -15,3 +15,6 @@ mod walks;
 
 pub use fault::ServeFault;
 pub use serving::serve;
+
+#[cfg(test)]
+mod tests;

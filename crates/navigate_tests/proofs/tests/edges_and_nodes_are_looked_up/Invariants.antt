@@ -1,4 +1,0 @@
-use Rattle.navigate_tests.proofs.tests.edges_and_nodes_are_looked_up.Given as goal
-
-abbrev pub ghosts-look_ups : goal.ghosts-look_ups
-ghosts-look_ups g a = record { name = a.blank.name; parts = a.blank.parts }

@@ -1,6 +1,0 @@
-use Rattle.std.proofs.Common.{sym, ◌∙◌, ap, ℕ, List}
-use Rattle.plane_model.specs.Sets.{has}
-use Rattle.navigate_tests.proofs.tests.two_neighbours.Goals as goal
-
-pub step-first-requires-clause-marks : goal.step-first-requires-clause-marks
-step-first-requires-clause-marks g c = λ j. c.requires.empty j ∙ ap (λ (xs : List ℕ). has xs j) (sym c.in-Some.ensures.places)

@@ -1,4 +1,0 @@
-use Rattle.navigate_tests.proofs.tests.walks_stepped_in_turn.Given as goal
-
-abbrev pub ghosts-stepped_in_turn : goal.ghosts-stepped_in_turn
-ghosts-stepped_in_turn g a = record { name = a.blank.name; parts = a.blank.parts }

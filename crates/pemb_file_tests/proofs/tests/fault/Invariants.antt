@@ -1,4 +1,0 @@
-use Rattle.pemb_file_tests.proofs.tests.fault.Given as goal
-
-abbrev pub ghosts-fault_counted : goal.ghosts-fault_counted
-ghosts-fault_counted a = record { name = a.blank.name; parts = a.blank.parts }

@@ -1,4 +1,0 @@
-use Rattle.topo_serve_tests.proofs.tests.damaged_files.answers.Given as goal
-
-abbrev pub ghosts-served : goal.ghosts-served
-ghosts-served a = record { name = a.blank.name; parts = a.blank.parts }
