@@ -16,6 +16,8 @@ pub use upgrade::upgraded;
 #[cfg(test)]
 mod opened;
 #[cfg(test)]
+mod placed_regions;
+#[cfg(test)]
 mod tests;
 #[cfg(test)]
 mod written;

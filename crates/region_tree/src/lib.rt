@@ -19,6 +19,3 @@ mod walk;
 pub use making::build;
 pub use parts::{MemberPlace, RegionParts};
 pub use view::RegionView;
-
-#[cfg(test)]
-mod tests;

@@ -2,7 +2,7 @@ use Rattle.std.proofs.Common.{arith}
 use Rattle.std.proofs.lemmas.Nat.{leading_length}
 use Rattle.bit_words.proofs.DigitLaws.{digits-pow}
 use Rattle.id_names.proofs.DigitBounds.{digits-is}
-use Rattle.region_tree.proofs.tests.names.binary_digits.Goals as goal
+use Rattle.file_parts.proofs.placed_regions.names.binary_digits.Goals as goal
 
 pub returns-clause-count : goal.returns-clause-count
 returns-clause-count c =

@@ -8,14 +8,14 @@ ghost use Rattle.region_tree.specs.Tables.{region_tables};
 
 mod names;
 
-use crate::tests::names::{NamesImage, names_image, names_in};
-use crate::{MemberPlace, RegionParts, RegionView, build};
+use crate::placed_regions::names::{NamesImage, names_image, names_in};
 use bit_words::{BitMaker, BitView, PackedMaker, PackedView, Steps, WordView};
 use image_words::{bytes_of, fields_in};
 use min_max_tree::MinMaxView;
 use parens::{ParenView, check_balanced};
 use plane_model::{FaceRow, MemberRow, RegionRow};
 use rank_select::RankView;
+use region_tree::{MemberPlace, RegionParts, RegionView, build};
 use rotation_check::CheckFault;
 use std::alloc::{AllocError, Global};
 use std::marker::Brand;
