@@ -8,105 +8,34 @@ mod plain;
 
 use crate::tests::image::{Bits, Walk, image_of};
 use crate::tests::plain::{Growing, Plain, number_orbits, plain_of};
-use crate::{CodeNumbering, CodeWords, RingNumber, SeqFault, TuranView, check, make, number};
+use crate::{CodeNumbering, RingNumber, SeqFault, TuranView, check, make, number};
 use bit_words::Steps;
 use std::alloc::Global;
 use std::marker::Brand;
 use std::sync::ledger::{Blank, Ledger};
 use std::test::Fail;
 
-/// A walk, bits in the place of its first sequence, and what `check` has to say of that code.
-#[derive(Clone, Copy)]
-struct Checked {
-    a: u64,
-    walk: Walk<'static>,
-    said: Result<(), SeqFault>,
-}
-
-const EDGE: Walk<'static> = Walk {
-    tree: &[true, true],
-    first: &[true, false],
-    starts: &[0, 2],
-};
-
-const CHECKED: [Checked; 6] = [
-    Checked {
-        a: 0b11,
-        walk: EDGE,
-        said: Ok(()),
-    },
-    Checked {
-        a: 0,
-        walk: Walk {
-            tree: &[],
-            first: &[],
-            starts: &[0],
-        },
-        said: Ok(()),
-    },
-    Checked {
-        a: 0b11,
-        walk: Walk {
-            starts: &[0, 1],
-            ..EDGE
-        },
-        said: Err(SeqFault::Starts { index: 1 }),
-    },
-    Checked {
-        a: 0b01,
-        walk: EDGE,
-        said: Err(SeqFault::Ones { found: 1 }),
-    },
-    Checked {
-        a: 0b11,
-        walk: Walk {
-            starts: &[0, 1, 2],
-            ..EDGE
-        },
-        said: Err(SeqFault::Tree { component: 0 }),
-    },
-    Checked {
-        a: 0,
-        walk: Walk {
-            tree: &[false, false],
-            first: &[false, true],
-            starts: &[0, 2],
-        },
-        said: Err(SeqFault::Dual { component: 0 }),
-    },
-];
-
-/// Whether `check` says what it has to. Not where sizes do not fit.
-fn is_said<C: Ledger>(
+/// What `check` says of the code of a walk with these bits as its first sequence. None where sizes do not fit.
+fn told<C: Ledger>(
     alloc: Global,
-    checked: &Checked,
-    steps: &mut Steps<C>,
-) -> Result<bool, Fail> {
-    let walk = checked.walk;
-    if !walk.fits() {
-        return Ok(false);
-    }
-    let mut image = image_of(alloc, walk)?;
-    image.a = Bits::new(alloc, walk.tree.len(), &[checked.a], &[], &[])?;
-    let Some(found) = image.sequences() else {
-        return Ok(false);
-    };
-    Ok(check(found.a, found.tree, found.dual, found.starts, steps) == checked.said)
-}
-
-/// The place of the first of which it doesn't.
-fn first_not_said<C: Ledger>(alloc: Global, blank: Blank) -> Result<Option<usize>, Fail>
+    a: u64,
+    walk: Walk<'_>,
+    blank: Blank,
+) -> Result<Option<Result<(), SeqFault>>, Fail>
+    requires same { length walk.tree.now ≡ length walk.first.now }
+    requires few { length walk.tree.now ≤ 2147483647 }
+    requires few_starts { length walk.starts.now ≤ 2147483647 }
     requires name { blank.name ≡ C.name }
     requires parts { blank.parts ≡ C.parts }
     requires some { 0 < blank.parts }
 {
     let mut steps = Steps::<C>::new(alloc, blank);
-    for (place, checked) in CHECKED.iter().enumerate() {
-        if !is_said(alloc, checked, &mut steps)? {
-            return Ok(Some(place));
-        }
-    }
-    Ok(None)
+    let mut image = image_of(alloc, walk)?;
+    image.a = Bits::new(alloc, walk.tree.len(), &[a], &[], &[])?;
+    let Some(found) = image.sequences() else {
+        return Ok(None);
+    };
+    Ok(Some(check(found.a, found.tree, found.dual, found.starts, &mut steps)))
 }
 
 /// What is wanted at each position. A ring is 0 where it is an outer one, and else one more than its shell.
@@ -269,68 +198,34 @@ enum Wrong {
     Numbers,
 }
 
-/// What is wrong with the view of the code of a walk.
-fn view_fault<C: Ledger>(
+/// What is wrong with the view of the code of a walk or with its numbers.
+fn examined<C: Ledger>(
     alloc: Global,
     walk: Walk<'_>,
     want: Want<'_>,
-    steps: &mut Steps<C>,
+    blank: Blank,
 ) -> Result<Option<Wrong>, Fail>
     requires same { length walk.tree.now ≡ length walk.first.now }
     requires few { length walk.tree.now ≤ 2147483647 }
     requires few_starts { length walk.starts.now ≤ 2147483647 }
-{
-    let image = image_of(alloc, walk)?;
-    let Some(view) = image.view(steps) else {
-        return Ok(Some(Wrong::Image));
-    };
-    if let Some(p) = wrong_position(view, want, 1, steps) {
-        return Ok(Some(Wrong::Position(p)));
-    }
-    if !firsts_are_wanted(view, want, steps) {
-        return Ok(Some(Wrong::Firsts));
-    }
-    Ok(None)
-}
-
-/// The same, or that its numbers are wrong.
-fn fault_of<C: Ledger>(
-    alloc: Global,
-    walk: Walk<'_>,
-    want: Want<'_>,
-    steps: &mut Steps<C>,
-) -> Result<Option<Wrong>, Fail> {
-    if !walk.fits() {
-        return Ok(Some(Wrong::Image));
-    }
-    let fault = view_fault(alloc, walk, want, steps)?;
-    if fault.is_some() {
-        return Ok(fault);
-    }
-    let numbering = number(alloc, walk.tree, walk.first, walk.starts)?;
-    if are_wanted(&numbering, want) {
-        Ok(None)
-    } else {
-        Ok(Some(Wrong::Numbers))
-    }
-}
-
-/// What is wrong with the first of these walks that isn't as wanted.
-fn first_fault<C: Ledger>(
-    alloc: Global,
-    wanted: &[(Walk<'_>, Want<'_>)],
-    blank: Blank,
-) -> Result<Option<Wrong>, Fail>
     requires name { blank.name ≡ C.name }
     requires parts { blank.parts ≡ C.parts }
     requires some { 0 < blank.parts }
 {
     let mut steps = Steps::<C>::new(alloc, blank);
-    for &(walk, want) in wanted {
-        let fault = fault_of(alloc, walk, want, &mut steps)?;
-        if fault.is_some() {
-            return Ok(fault);
-        }
+    let image = image_of(alloc, walk)?;
+    let Some(view) = image.view(&mut steps) else {
+        return Ok(Some(Wrong::Image));
+    };
+    if let Some(p) = wrong_position(view, want, 1, &mut steps) {
+        return Ok(Some(Wrong::Position(p)));
+    }
+    if !firsts_are_wanted(view, want, &mut steps) {
+        return Ok(Some(Wrong::Firsts));
+    }
+    let numbering = number(alloc, walk.tree, walk.first, walk.starts)?;
+    if !are_wanted(&numbering, want) {
+        return Ok(Some(Wrong::Numbers));
     }
     Ok(None)
 }
@@ -390,13 +285,13 @@ fn unlike<C: Ledger>(
 
 /// What of the code of a walk is not as reading the walk with stacks gives it.
 fn compared<C: Ledger>(alloc: Global, walk: Walk<'_>, blank: Blank) -> Result<Option<Wrong>, Fail>
+    requires same { length walk.tree.now ≡ length walk.first.now }
+    requires few { length walk.tree.now ≤ 2147483647 }
+    requires few_starts { length walk.starts.now ≤ 2147483647 }
     requires name { blank.name ≡ C.name }
     requires parts { blank.parts ≡ C.parts }
     requires some { 0 < blank.parts }
 {
-    if !walk.fits() {
-        return Ok(Some(Wrong::Image));
-    }
     let mut steps = Steps::<C>::new(alloc, blank);
     let image = image_of(alloc, walk)?;
     let Some(view) = image.view(&mut steps) else {
@@ -409,22 +304,43 @@ fn compared<C: Ledger>(alloc: Global, walk: Walk<'_>, blank: Blank) -> Result<Op
 
 #[test]
 fn a_sound_code_is_told_and_each_fault_is_named(rt: HostRuntime) -> Result<(), Fail> {
-    let wrong = first_not_said::<Brand>(rt.alloc(), Blank::new(1))?;
-    assert_eq!(rt; wrong, None);
+    let edge = Walk {
+        tree: &[true, true],
+        first: &[true, false],
+        starts: &[0, 2],
+    };
+    let closes_first = Walk {
+        tree: &[false, false],
+        first: &[false, true],
+        starts: &[0, 2],
+    };
+    let no_positions = Walk {
+        tree: &[],
+        first: &[],
+        starts: &[0],
+    };
+    let short = Walk {
+        starts: &[0, 1],
+        ..edge
+    };
+    let split = Walk {
+        starts: &[0, 1, 2],
+        ..edge
+    };
+    let alloc = rt.alloc();
+    let sound = told::<Brand>(alloc, 0b11, edge, Blank::new(1))?;
+    assert_eq!(rt; sound, Some(Ok(())));
+    let empty = told::<Brand>(alloc, 0, no_positions, Blank::new(1))?;
+    assert_eq!(rt; empty, Some(Ok(())));
+    let starts = told::<Brand>(alloc, 0b11, short, Blank::new(1))?;
+    assert_eq!(rt; starts, Some(Err(SeqFault::Starts { index: 1 })));
+    let ones = told::<Brand>(alloc, 0b01, edge, Blank::new(1))?;
+    assert_eq!(rt; ones, Some(Err(SeqFault::Ones { found: 1 })));
+    let tree = told::<Brand>(alloc, 0b11, split, Blank::new(1))?;
+    assert_eq!(rt; tree, Some(Err(SeqFault::Tree { component: 0 })));
+    let dual = told::<Brand>(alloc, 0, closes_first, Blank::new(1))?;
+    assert_eq!(rt; dual, Some(Err(SeqFault::Dual { component: 0 })));
     Ok(())
-}
-
-/// Whether these are the words of a triangle. A field of 32 bits in the high half of a word counts 4294967296.
-fn are_of_triangle(words: &CodeWords) -> bool {
-    words.a.as_slice() == [27].as_slice()
-        && words.a_counts.as_slice() == [4 * 4294967296].as_slice()
-        && words.b.as_slice() == [3].as_slice()
-        && words.b_counts.as_slice() == [2 * 4294967296].as_slice()
-        && words.b_tree.as_slice() == [0].as_slice()
-        && words.dual.as_slice() == [1].as_slice()
-        && words.dual_counts.as_slice() == [4294967296].as_slice()
-        && words.dual_tree.as_slice() == [0].as_slice()
-        && words.starts.as_slice() == [6 * 4294967296].as_slice()
 }
 
 #[test]
@@ -435,7 +351,16 @@ fn the_words_of_a_triangle_are_made(rt: HostRuntime) -> Result<(), Fail> {
         &[true, true, true, false, false, false],
         &[0, 6],
     )?;
-    assert!(rt; are_of_triangle(&words));
+    // A field of 32 bits in the high half of a word counts 4294967296.
+    assert_eq!(rt; words.a.as_slice(), [27].as_slice());
+    assert_eq!(rt; words.a_counts.as_slice(), [4 * 4294967296].as_slice());
+    assert_eq!(rt; words.b.as_slice(), [3].as_slice());
+    assert_eq!(rt; words.b_counts.as_slice(), [2 * 4294967296].as_slice());
+    assert_eq!(rt; words.b_tree.as_slice(), [0].as_slice());
+    assert_eq!(rt; words.dual.as_slice(), [1].as_slice());
+    assert_eq!(rt; words.dual_counts.as_slice(), [4294967296].as_slice());
+    assert_eq!(rt; words.dual_tree.as_slice(), [0].as_slice());
+    assert_eq!(rt; words.starts.as_slice(), [6 * 4294967296].as_slice());
     Ok(())
 }
 
@@ -455,7 +380,7 @@ fn a_triangle_has_its_steps_and_numbers(rt: HostRuntime) -> Result<(), Fail> {
         node: &[0, 1, 2, 2, 1, 0],
         ring: &[0, 0, 0, 1, 1, 1],
     };
-    let wrong = first_fault::<Brand>(rt.alloc(), &[(walk, want)], Blank::new(1))?;
+    let wrong = examined::<Brand>(rt.alloc(), walk, want, Blank::new(1))?;
     assert_eq!(rt; wrong, None);
     Ok(())
 }
@@ -467,7 +392,7 @@ fn a_closed_edge_has_two_rings_and_an_open_one_two_nodes(rt: HostRuntime) -> Res
         first: &[true, false],
         starts: &[0, 2],
     };
-    let of_closed = Want {
+    let want = Want {
         mate: &[1, 0],
         next: &[0, 1],
         turn: &[1, 0],
@@ -476,15 +401,20 @@ fn a_closed_edge_has_two_rings_and_an_open_one_two_nodes(rt: HostRuntime) -> Res
         node: &[0, 0],
         ring: &[0, 1],
     };
-    let of_open = Want {
+    let wrong = examined::<Brand>(rt.alloc(), closed, want, Blank::new(1))?;
+    assert_eq!(rt; wrong, None);
+    let open = Walk {
+        tree: &[true, true],
+        ..closed
+    };
+    let want = Want {
         next: &[1, 0],
         turn: &[0, 1],
         node: &[0, 1],
         ring: &[0, 0],
-        ..of_closed
+        ..want
     };
-    let wanted = [(closed, of_closed), (EDGE, of_open)];
-    let wrong = first_fault::<Brand>(rt.alloc(), &wanted, Blank::new(1))?;
+    let wrong = examined::<Brand>(rt.alloc(), open, want, Blank::new(1))?;
     assert_eq!(rt; wrong, None);
     Ok(())
 }
@@ -496,7 +426,7 @@ fn components_are_walked_each_by_itself(rt: HostRuntime) -> Result<(), Fail> {
         first: &[true, false, true, false],
         starts: &[0, 2, 4],
     };
-    let of_two_edges = Want {
+    let want = Want {
         mate: &[1, 0, 3, 2],
         next: &[1, 0, 3, 2],
         turn: &[0, 1, 2, 3],
@@ -505,12 +435,14 @@ fn components_are_walked_each_by_itself(rt: HostRuntime) -> Result<(), Fail> {
         node: &[0, 2, 1, 3],
         ring: &[0, 0, 0, 0],
     };
+    let wrong = examined::<Brand>(rt.alloc(), two_edges, want, Blank::new(1))?;
+    assert_eq!(rt; wrong, None);
     let both_kinds = Walk {
         tree: &[true, false, true, false, false, false, true, true],
         first: &[true, true, false, false, true, false, true, false],
         starts: &[0, 4, 8],
     };
-    let of_both_kinds = Want {
+    let want = Want {
         mate: &[2, 3, 0, 1, 5, 4, 7, 6],
         next: &[1, 0, 3, 2, 6, 5, 7, 4],
         turn: &[3, 2, 1, 0, 5, 6, 4, 7],
@@ -519,29 +451,21 @@ fn components_are_walked_each_by_itself(rt: HostRuntime) -> Result<(), Fail> {
         node: &[0, 2, 2, 0, 1, 1, 1, 3],
         ring: &[0, 0, 1, 1, 0, 2, 0, 0],
     };
-    let wanted = [(two_edges, of_two_edges), (both_kinds, of_both_kinds)];
-    let wrong = first_fault::<Brand>(rt.alloc(), &wanted, Blank::new(1))?;
+    let wrong = examined::<Brand>(rt.alloc(), both_kinds, want, Blank::new(1))?;
     assert_eq!(rt; wrong, None);
     Ok(())
 }
 
-/// A random walk of five components, 100,000 positions long.
-fn long_walk(alloc: Global) -> Result<Growing, Fail> {
-    let mut walk = Growing::new(alloc);
+#[test]
+fn a_long_code_is_that_of_reading_it_with_stacks(rt: HostRuntime) -> Result<(), Fail> {
+    let mut walk = Growing::new(rt.alloc());
     for edges in [1, 30000, 2, 511, 19486] {
         walk.push_component(edges)?;
     }
     walk.starts.push(walk.positions)?;
-    Ok(walk)
-}
-
-#[test]
-fn a_long_code_is_that_of_reading_it_with_stacks(rt: HostRuntime) -> Result<(), Fail> {
-    let walk = long_walk(rt.alloc())?;
-    assert_eq!(rt;
-        (walk.tree.len(), walk.first.len(), walk.starts.len()),
-        (100000, 100000, 6)
-    );
+    assert_eq!(rt; walk.tree.len(), 100000);
+    assert_eq!(rt; walk.first.len(), 100000);
+    assert_eq!(rt; walk.starts.len(), 6);
     let walk = Walk {
         tree: walk.tree.as_slice(),
         first: walk.first.as_slice(),

@@ -33,19 +33,6 @@ pub(super) struct Walk<'a> {
     pub(super) starts: &'a [u32],
 }
 
-impl Walk<'_> {
-    /// Whether its lists fit one another and the limits of a code.
-    pub(super) fn fits(self) -> bool
-        ensures same { IsTrue result → length self.entry.tree.now ≡ length self.entry.first.now }
-        ensures few { IsTrue result → length self.entry.tree.now ≤ 2147483647 }
-        ensures few_starts { IsTrue result → length self.entry.starts.now ≤ 2147483647 }
-    {
-        self.tree.len() == self.first.len()
-            && self.tree.len() <= 2147483647
-            && self.starts.len() <= 2147483647
-    }
-}
-
 /// Bits with their counts and their tree, as bytes.
 #[derive(Drop)]
 pub(super) struct Bits {

@@ -1,4 +1,4 @@
 use Rattle.turan_code.proofs.tests.components_are_walked_each_by_itself.Given as goal
 
-abbrev pub ghosts-first_fault : goal.ghosts-first_fault
-ghosts-first_fault g a = record { name = a.blank.name; parts = a.blank.parts }
+abbrev pub ghosts-examined : goal.ghosts-examined
+ghosts-examined g a = record { name = a.blank.name; parts = a.blank.parts }
