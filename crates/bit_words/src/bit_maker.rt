@@ -70,7 +70,7 @@ impl BitMaker {
         ensures ok { OnOk result (self.new ≡ self.old ++ bit ∷ []) }
         ensures err { OnErr result (self.new ≡ self.old) }
     {
-        self.bits.push(if bit { 1 } else { 0 })
+        self.bits.push_bit(if bit { 1 } else { 0 })
     }
 
     /// The words, with bits of 0 after the last bit.

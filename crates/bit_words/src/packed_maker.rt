@@ -68,6 +68,27 @@ fn append(words: &mut Vec<u64>, from: usize, width: u32, value: u64) -> Result<(
     }
 }
 
+/// Puts a bit at `from`, where the words end.
+#[inline]
+fn append_bit(words: &mut Vec<u64>, from: usize, bit: u64) -> Result<(), Memory>
+    requires size { length words.old.items ≡ (from + 63) / 64 }
+    requires rest { stream words.old.items < 2 ^ from }
+    requires fits { bit < 2 }
+    ensures size { OnOk result (length words.new.items ≡ (from + 64) / 64) }
+    ensures stream { OnOk result (stream words.new.items ≡ stream words.old.items + 2 ^ from * bit) }
+    ensures err { OnErr result (words.new.items ≡ words.old.items) }
+{
+    let place = (from % 64) as u32;
+    if place == 0 {
+        push_word(words, bit)?;
+        Ok(())
+    } else {
+        let last = words[from / 64] | bit << place;
+        words[from / 64] = last;
+        Ok(())
+    }
+}
+
 #[tactic(auto, using(crate::proofs::Streams::packed))]
 impl PackedMaker {
     ghost use Rattle.std.specs.Prelude.{ℕ, ◌≡◌, ◌==◌, ◌<◌, ◌≤◌, ◌+◌, ◌*◌, ◌^◌, [], ◌∷◌, ◌++◌, length, map, slice_index_or, false, OnOk, OnErr};
@@ -137,6 +158,20 @@ impl PackedMaker {
             self.width,
             value,
         )?;
+        self.count += 1;
+        Ok(())
+    }
+
+    /// The same where the numbers are bits.
+    #[inline]
+    pub(crate) fn push_bit(&mut self, value: u64) -> Result<(), Memory>
+        requires bits { self.old.width ≡ 1 }
+        requires fits { value < 2 }
+        requires room { length self.old.items < 2147483647 }
+        ensures ok { OnOk result (self.new ≡ record self.old { items = self.old.items ++ value ∷ [] }) }
+        ensures err { OnErr result (self.new ≡ self.old) }
+    {
+        append_bit(&mut self.words, self.count, value)?;
         self.count += 1;
         Ok(())
     }

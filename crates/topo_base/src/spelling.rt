@@ -1,9 +1,21 @@
 //! How numbers are spelled in tables and scripts.
 
-ghost use Rattle.std.specs.Prelude.{◌≡◌, pos, option_and_then, option_map};
+ghost use Rattle.std.specs.Prelude.{◌≡◌, ◌+◌, ◌*◌, ◌≤◌, nat_lt, pos, option_and_then, option_map};
+ghost use Rattle.topo_base.specs.declared.id.TheConstants.{LARGEST_ID};
 ghost use Rattle.topo_base.specs.Spelling.{digits_behind, id_number, in_range, positive_number, signed_number};
 
 use crate::id::{IdNumber, LARGEST_ID, SignedNumber};
+
+/// What may stand before a last digit, but for the digits past that of `LARGEST_ID`.
+const LARGEST_TENTH: IdNumber = LARGEST_ID / 10;
+
+/// Whether one more digit takes a number past `LARGEST_ID`.
+fn is_past(number: IdNumber, digit: IdNumber) -> bool
+    requires { digit ≤ 9 }
+    ensures { result ≡ nat_lt LARGEST_ID (10 * number + digit) }
+{
+    number >= LARGEST_TENTH && (number > LARGEST_TENTH || digit > LARGEST_ID % 10)
+}
 
 /// The number that digits spell, where it is no greater than `LARGEST_ID`.
 fn digits(bytes: &[u8]) -> Option<IdNumber>
@@ -15,7 +27,7 @@ fn digits(bytes: &[u8]) -> Option<IdNumber>
             return None;
         }
         let digit = IdNumber::from(*b - b'0');
-        if number > (LARGEST_ID - digit) / 10 {
+        if is_past(number, digit) {
             return None;
         }
         number = 10 * number + digit;
