@@ -1,10 +1,11 @@
 -- What stands in faces, by row and by component, and in order.
 use Rattle.std.specs.Prelude.{map, nat_eq, not, Option, None, Some, option_map}
-use Rattle.std.specs.List.{All, AllByRecursion, cons_option, IsDistinct, filter_map, range_with_len}
+use Rattle.std.specs.List.{All, AllByRecursion, cons_option, IsDistinct, filter_map, range_with_len, slice_get}
 use Rattle.std.specs.List.Sorted.{IsPermutation}
 use Rattle.std.proofs.Common.{◌≡◌, ℕ, zero, suc, ◌+◌, ◌<◌, ◌==◌, ◌||◌, inl, inr, Bool, true, false, List, [], ◌∷◌, ◌++◌, take, length, get_or, slice_index, refl, sym, ap, ◌∙◌, subst, arith, add-one}
 use Rattle.std.proofs.lemmas.Bool.{and_parts, or_cases, or_left, or_right, cases_Bool, both_ways, not-true}
 use Rattle.std.proofs.lemmas.List.{get_or-map, length-map}
+use Rattle.std.proofs.lemmas.Option.{get_or_from_slice_get, slice_get_within}
 use Rattle.std.proofs.lemmas.List.FromFn.{fill_by_all, get_or-map-range_with_len, length-range_with_len, map-range_with_len_more}
 use Rattle.std.proofs.lemmas.Map.Keys.{IsDistinct-cons}
 use Rattle.std.proofs.lemmas.List.Sorted.{All-permutation, Contains-permutation, IsPermutation-map, IsPermutation-sym}
@@ -32,19 +33,20 @@ none_step h [] i d l none = absurd (omega (arith, l))
 none_step h (z ∷ zs) zero d l none = rw none refl
 none_step h (z ∷ zs) (suc i) d l none = ap (cons_option (h z)) (none_step h zs i d (omega (arith, l)) none)
 
-pub node_stands : (faces : List ℕ) (nodes : List NodeRow) (i : ℕ) (row : NodeRow) (f place : ℕ) (before after : List Standing) → i < length nodes → (get_or nodes i row).face ≡ Some f → place ≡ place_of faces f → before ≡ placed_nodes faces (take i nodes)
-    → after ≡ before ++ record { place = place; key = (get_or nodes i row).id; component = 0 } ∷ [] → after ≡ placed_nodes faces (take (i + 1) nodes)
-node_stands faces nodes i row f place before after l named at all more =
-    let id = (get_or nodes i row).id in
-    let P : ℕ → List Standing → List Standing = λ v ss. ss ++ record { place = v; key = id; component = 0 } ∷ [] in
-    let stands : placed_node faces (get_or nodes i row) ≡ Some (record { place = place_of faces f; key = id; component = 0 }) = rw named refl in
-    more ∙ (λ j. P (at j) (all j)) ∙ sym (rw (add-one i) (some_step (placed_node faces) nodes i row (record { place = place_of faces f; key = id; component = 0 }) l stands))
+pub node_stands : (faces : List ℕ) (nodes : List NodeRow) (i : ℕ) (row : NodeRow) (f place : ℕ) (before after : List Standing) → slice_get nodes i ≡ Some row → row.face ≡ Some f → place ≡ place_of faces f → before ≡ placed_nodes faces (take i nodes)
+    → after ≡ before ++ record { place = place; key = row.id; component = 0 } ∷ [] → after ≡ placed_nodes faces (take (i + 1) nodes)
+node_stands faces nodes i row f place before after here named at all more =
+    let P : ℕ → List Standing → List Standing = λ v ss. ss ++ record { place = v; key = row.id; component = 0 } ∷ [] in
+    let stands : placed_node faces row ≡ Some (record { place = place_of faces f; key = row.id; component = 0 }) = rw named refl in
+    let found = ap (placed_node faces) (get_or_from_slice_get nodes i row row here) ∙ stands in
+    more ∙ (λ j. P (at j) (all j)) ∙ sym (rw (add-one i) (some_step (placed_node faces) nodes i row (record { place = place_of faces f; key = row.id; component = 0 }) (slice_get_within nodes i row here) found))
 
-pub node_passed : (faces : List ℕ) (nodes : List NodeRow) (i : ℕ) (row : NodeRow) (before after : List Standing) → i < length nodes → (get_or nodes i row).face ≡ None → before ≡ placed_nodes faces (take i nodes) → after ≡ before
+pub node_passed : (faces : List ℕ) (nodes : List NodeRow) (i : ℕ) (row : NodeRow) (before after : List Standing) → slice_get nodes i ≡ Some row → row.face ≡ None → before ≡ placed_nodes faces (take i nodes) → after ≡ before
     → after ≡ placed_nodes faces (take (i + 1) nodes)
-node_passed faces nodes i row before after l none all same =
-    let past : placed_node faces (get_or nodes i row) ≡ None = rw none refl in
-    same ∙ all ∙ sym (rw (add-one i) (none_step (placed_node faces) nodes i row l past))
+node_passed faces nodes i row before after here none all same =
+    let past : placed_node faces row ≡ None = rw none refl in
+    let found = ap (placed_node faces) (get_or_from_slice_get nodes i row row here) ∙ past in
+    same ∙ all ∙ sym (rw (add-one i) (none_step (placed_node faces) nodes i row (slice_get_within nodes i row here) found))
 
 -- the keys of nodes are distinct where the ids of rows are
 not_among : (x : ℕ) (xs : List ℕ) → has xs x ≡ false → AllByRecursion (λ y. nat_eq x y ≡ false) xs

@@ -6,14 +6,14 @@ ghost use Rattle.map_build.specs.ByNumber.{StandByNumber};
 ghost use Rattle.map_build.specs.DartRows.{row_at, start_of_dart, face_of_dart};
 
 use crate::rows::{edge_id, face_id, is_forward, node_id};
-use plane_model::EdgeRow;
+use plane_model::EdgeTable;
 use std::alloc::{AllocError, Global};
 use topo_base::IdNumber;
 
 /// The ids of edges by number.
 pub(crate) fn edge_ids(
     alloc: Global,
-    edges: &[EdgeRow],
+    edges: &EdgeTable,
     darts: &[u32],
     numbers: &[u32],
 ) -> Result<Vec<IdNumber>, AllocError>
@@ -67,7 +67,7 @@ pub(crate) fn directions(
 pub(crate) fn node_ids(
     alloc: Global,
     count: usize,
-    edges: &[EdgeRow],
+    edges: &EdgeTable,
     darts: &[u32],
     numbers: &[u32],
 ) -> Result<Vec<IdNumber>, AllocError>
@@ -94,7 +94,7 @@ pub(crate) fn node_ids(
 pub(crate) fn face_ids(
     alloc: Global,
     count: usize,
-    edges: &[EdgeRow],
+    edges: &EdgeTable,
     darts: &[u32],
     rings: &[u32],
 ) -> Result<Vec<IdNumber>, AllocError>

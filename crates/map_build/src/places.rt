@@ -15,7 +15,7 @@ ghost use Rattle.map_build.specs.Placed.{IsKnown, IsKnownOrNone, AreOrdered, mem
 use crate::rows::edge_key;
 use crate::standing::{Standing, in_order, standing_components};
 use id_index::IdIndex;
-use plane_model::{EdgeRow, NodeRow};
+use plane_model::{EdgeTable, NodeTable};
 use region_tree::MemberPlace;
 use std::alloc::{AllocError, Global};
 use topo_base::IdNumber;
@@ -74,12 +74,13 @@ impl<'a> FacePlaces<'a> {
     }
 
     /// The isolated nodes in their faces.
-    fn of_nodes(&self, alloc: Global, nodes: &[NodeRow]) -> Result<Vec<Standing>, AllocError>
+    fn of_nodes(&self, alloc: Global, nodes: &NodeTable) -> Result<Vec<Standing>, AllocError>
         requires { All (λ n. IsKnownOrNone self.now.faces.now n.face) nodes.now }
         ensures { IfOk result (λ standing. standing.items ≡ placed_nodes self.now.faces.now nodes.now) }
     {
         let mut standing = Vec::new(alloc);
-        for node in nodes {
+        for row in 0..nodes.len() {
+            let node = nodes.row(row);
             if let Some(face) = node.face {
                 standing.push(Standing {
                     place: self.place(face),
@@ -95,7 +96,7 @@ impl<'a> FacePlaces<'a> {
     pub(crate) fn isolated_nodes(
         &self,
         alloc: Global,
-        nodes: &[NodeRow],
+        nodes: &NodeTable,
     ) -> Result<Vec<Standing>, AllocError>
         requires known { All (λ n. IsKnownOrNone self.now.faces.now n.face) nodes.now }
         requires apart { IsTrue (is_distinct (map (λ n. n.id) nodes.now)) }
@@ -130,7 +131,7 @@ impl<'a> FacePlaces<'a> {
 /// The components in the order of their places, and in one place by the signed edge of their start.
 pub(crate) fn component_order(
     alloc: Global,
-    edges: &[EdgeRow],
+    edges: &EdgeTable,
     starts: &[u32],
     places: &[u32],
 ) -> Result<Vec<u32>, AllocError>
@@ -148,7 +149,7 @@ pub(crate) fn component_order(
 /// The components in the faces that contain them.
 fn components(
     alloc: Global,
-    edges: &[EdgeRow],
+    edges: &EdgeTable,
     starts: &[u32],
     places: &[u32],
 ) -> Result<Vec<Standing>, AllocError>

@@ -6,15 +6,15 @@ ghost use Rattle.std.specs.List.{list_all};
 ghost use Rattle.topo_base.specs.declared.id.TheConstants.{LARGEST_ID};
 ghost use Rattle.map_build.specs.DartRows.{row_at, start_of_dart, face_of_dart, key_of_dart};
 
-use plane_model::EdgeRow;
+use plane_model::{EdgeRow, EdgeTable};
 use topo_base::IdNumber;
 
 /// The row of a dart's edge.
-fn row(edges: &[EdgeRow], dart: u32) -> EdgeRow
+fn row(edges: &EdgeTable, dart: u32) -> EdgeRow
     requires { dart < 2 * length edges.now }
     ensures { result ≡ row_at edges.now dart }
 {
-    edges[(dart / 2) as usize]
+    edges.row((dart / 2) as usize)
 }
 
 /// Whether a dart runs from its edge's start to its end.
@@ -25,7 +25,7 @@ pub(crate) fn is_forward(dart: u32) -> bool
 }
 
 /// The id of a dart's edge.
-pub(crate) fn edge_id(edges: &[EdgeRow], dart: u32) -> IdNumber
+pub(crate) fn edge_id(edges: &EdgeTable, dart: u32) -> IdNumber
     requires { dart < 2 * length edges.now }
     ensures { result ≡ (row_at edges.now dart).id }
 {
@@ -33,7 +33,7 @@ pub(crate) fn edge_id(edges: &[EdgeRow], dart: u32) -> IdNumber
 }
 
 /// The id of the node that a dart leaves.
-pub(crate) fn node_id(edges: &[EdgeRow], dart: u32) -> IdNumber
+pub(crate) fn node_id(edges: &EdgeTable, dart: u32) -> IdNumber
     requires { dart < 2 * length edges.now }
     ensures { result ≡ start_of_dart edges.now dart }
 {
@@ -42,7 +42,7 @@ pub(crate) fn node_id(edges: &[EdgeRow], dart: u32) -> IdNumber
 }
 
 /// The id of the face on a dart's left.
-pub(crate) fn face_id(edges: &[EdgeRow], dart: u32) -> IdNumber
+pub(crate) fn face_id(edges: &EdgeTable, dart: u32) -> IdNumber
     requires { dart < 2 * length edges.now }
     ensures { result ≡ face_of_dart edges.now dart }
 {
@@ -55,7 +55,7 @@ pub(crate) fn face_id(edges: &[EdgeRow], dart: u32) -> IdNumber
 }
 
 /// A number that grows in the order of signed edges.
-pub(crate) fn edge_key(edges: &[EdgeRow], dart: u32) -> u64
+pub(crate) fn edge_key(edges: &EdgeTable, dart: u32) -> u64
     requires dart { dart < 2 * length edges.now }
     requires ids { IsTrue (list_all (λ e. nat_le e.id LARGEST_ID) edges.now) }
     ensures { result ≡ key_of_dart edges.now dart }

@@ -9,7 +9,7 @@ ghost use Rattle.map_maker.specs.Grid.{east_edge, north_edge, closed_edge, grid_
 use crate::direction::Direction;
 use crate::place::Place;
 use bit_words::Memory;
-use plane_model::{EdgeRow, FaceRow, NodeRow, Tables};
+use plane_model::{EdgeRow, EdgeTable, FaceRow, NodeRow, NodeTable, Tables};
 use std::alloc::{AllocError, Global};
 use topo_base::{IdNumber, SignedNumber};
 
@@ -97,9 +97,9 @@ fn closed_edge(n: u32, q: u32) -> EdgeRow
 }
 
 /// Adds the nodes of the grid.
-fn push_grid_nodes(nodes: &mut Vec<NodeRow>, n: u32) -> Result<(), AllocError>
+fn push_grid_nodes(nodes: &mut NodeTable, n: u32) -> Result<(), AllocError>
     requires { n ≤ 1000 }
-    ensures { OnOk result (nodes.new.items ≡ nodes.old.items ++ map (grid_node n) (places (n + 1) (n + 1))) }
+    ensures { OnOk result (nodes.new ≡ nodes.old ++ map (grid_node n) (places (n + 1) (n + 1))) }
 {
     let columns = n + 1;
     for i in 0..columns * columns {
@@ -113,9 +113,9 @@ fn push_grid_nodes(nodes: &mut Vec<NodeRow>, n: u32) -> Result<(), AllocError>
 }
 
 /// Adds the nodes of the closed edges.
-fn push_closed_nodes(nodes: &mut Vec<NodeRow>, n: u32) -> Result<(), AllocError>
+fn push_closed_nodes(nodes: &mut NodeTable, n: u32) -> Result<(), AllocError>
     requires { n ≤ 1000 }
-    ensures { OnOk result (nodes.new.items ≡ nodes.old.items ++ map (closed_node n)
+    ensures { OnOk result (nodes.new ≡ nodes.old ++ map (closed_node n)
         (range_with_len 1 (closed_count n))) }
 {
     for q in 0..closed_count(n) {
@@ -128,9 +128,9 @@ fn push_closed_nodes(nodes: &mut Vec<NodeRow>, n: u32) -> Result<(), AllocError>
 }
 
 /// Adds the isolated nodes.
-fn push_isolated_nodes(nodes: &mut Vec<NodeRow>, n: u32) -> Result<(), AllocError>
+fn push_isolated_nodes(nodes: &mut NodeTable, n: u32) -> Result<(), AllocError>
     requires { n ≤ 1000 }
-    ensures { OnOk result (nodes.new.items ≡ nodes.old.items ++ map (isolated_node n)
+    ensures { OnOk result (nodes.new ≡ nodes.old ++ map (isolated_node n)
         (range_with_len 1 (isolated_count n))) }
 {
     let before = (n + 1) * (n + 1) + closed_count(n);
@@ -144,10 +144,10 @@ fn push_isolated_nodes(nodes: &mut Vec<NodeRow>, n: u32) -> Result<(), AllocErro
 }
 
 /// Adds the edges to the east.
-fn push_east_edges(edges: &mut Vec<EdgeRow>, n: u32) -> Result<(), AllocError>
+fn push_east_edges(edges: &mut EdgeTable, n: u32) -> Result<(), AllocError>
     requires some { 1 ≤ n }
     requires size { n ≤ 1000 }
-    ensures { OnOk result (edges.new.items ≡ edges.old.items ++ map (east_edge n) (places (n + 1) n)) }
+    ensures { OnOk result (edges.new ≡ edges.old ++ map (east_edge n) (places (n + 1) n)) }
 {
     for i in 0..(n + 1) * n {
         let place = Place::numbered(n, i);
@@ -157,9 +157,9 @@ fn push_east_edges(edges: &mut Vec<EdgeRow>, n: u32) -> Result<(), AllocError>
 }
 
 /// Adds the edges to the north.
-fn push_north_edges(edges: &mut Vec<EdgeRow>, n: u32) -> Result<(), AllocError>
+fn push_north_edges(edges: &mut EdgeTable, n: u32) -> Result<(), AllocError>
     requires { n ≤ 1000 }
-    ensures { OnOk result (edges.new.items ≡ edges.old.items ++ map (north_edge n) (places n (n + 1))) }
+    ensures { OnOk result (edges.new ≡ edges.old ++ map (north_edge n) (places n (n + 1))) }
 {
     let columns = n + 1;
     for i in 0..n * columns {
@@ -170,9 +170,9 @@ fn push_north_edges(edges: &mut Vec<EdgeRow>, n: u32) -> Result<(), AllocError>
 }
 
 /// Adds the closed edges.
-fn push_closed_edges(edges: &mut Vec<EdgeRow>, n: u32) -> Result<(), AllocError>
+fn push_closed_edges(edges: &mut EdgeTable, n: u32) -> Result<(), AllocError>
     requires { n ≤ 1000 }
-    ensures { OnOk result (edges.new.items ≡ edges.old.items ++ map (closed_edge n)
+    ensures { OnOk result (edges.new ≡ edges.old ++ map (closed_edge n)
         (range_with_len 1 (closed_count n))) }
 {
     for q in 0..closed_count(n) {
@@ -195,12 +195,11 @@ fn push_faces(faces: &mut Vec<FaceRow>, n: u32) -> Result<(), AllocError>
 }
 
 /// The nodes of the grid, by id.
-fn nodes_of(alloc: Global, n: u32) -> Result<Vec<NodeRow>, AllocError>
+fn nodes_of(alloc: Global, n: u32) -> Result<NodeTable, AllocError>
     requires { n ≤ 1000 }
-    ensures { IfOk result (λ nodes. nodes.items ≡ (grid_of n).nodes) }
+    ensures { IfOk result (λ nodes. nodes ≡ (grid_of n).nodes) }
 {
-    let joined = (n + 1) * (n + 1) + closed_count(n);
-    let mut nodes = Vec::with_capacity(alloc, (joined + isolated_count(n)) as usize)?;
+    let mut nodes = NodeTable::new(alloc);
     push_grid_nodes(&mut nodes, n)?;
     push_closed_nodes(&mut nodes, n)?;
     push_isolated_nodes(&mut nodes, n)?;
@@ -208,12 +207,12 @@ fn nodes_of(alloc: Global, n: u32) -> Result<Vec<NodeRow>, AllocError>
 }
 
 /// The edges of the grid, by id.
-fn edges_of(alloc: Global, n: u32) -> Result<Vec<EdgeRow>, AllocError>
+fn edges_of(alloc: Global, n: u32) -> Result<EdgeTable, AllocError>
     requires some { 1 ≤ n }
     requires size { n ≤ 1000 }
-    ensures { IfOk result (λ edges. edges.items ≡ (grid_of n).edges) }
+    ensures { IfOk result (λ edges. edges ≡ (grid_of n).edges) }
 {
-    let mut edges = Vec::with_capacity(alloc, (2 * n * (n + 1) + closed_count(n)) as usize)?;
+    let mut edges = EdgeTable::new(alloc);
     push_east_edges(&mut edges, n)?;
     push_north_edges(&mut edges, n)?;
     push_closed_edges(&mut edges, n)?;

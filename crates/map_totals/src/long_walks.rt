@@ -6,7 +6,7 @@ use crate::maps::{grid_edges, grid_image};
 use bit_words::Steps;
 use navigate::{node_walk, ring_walk};
 use pemb_file::{Served, open};
-use plane_model::EdgeRow;
+use plane_model::EdgeTable;
 use std::alloc::Global;
 use std::marker::Brand;
 use std::sync::ledger::{Blank, Ledger};
@@ -27,7 +27,7 @@ const CLOSED_NODE: IdNumber = 53_841;
 /// A walk over rows whose ids are 1, 2, 3 and so on.
 #[derive(Clone, Copy)]
 struct RowWalk<'a> {
-    edges: &'a [EdgeRow],
+    edges: &'a EdgeTable,
     /// Whether it goes round a node.
     round: bool,
     first: SignedNumber,
@@ -37,7 +37,7 @@ struct RowWalk<'a> {
 
 impl<'a> RowWalk<'a> {
     /// The walk from a signed edge on until it comes back.
-    fn from(edges: &'a [EdgeRow], round: bool, first: SignedNumber) -> RowWalk<'a> {
+    fn from(edges: &'a EdgeTable, round: bool, first: SignedNumber) -> RowWalk<'a> {
         RowWalk {
             edges,
             round,
@@ -60,13 +60,14 @@ impl<'a> RowWalk<'a> {
 }
 
 /// The signed edge after one, round a node or along a ring.
-fn following(edges: &[EdgeRow], round: bool, at: SignedNumber) -> Option<SignedNumber> {
+fn following(edges: &EdgeTable, round: bool, at: SignedNumber) -> Option<SignedNumber> {
     let Some(row) = (at.unsigned_abs() as usize).checked_sub(1) else {
         return None;
     };
-    let Some(edge) = edges.get(row) else {
+    if row >= edges.len() {
         return None;
-    };
+    }
+    let edge = edges.row(row);
     Some(if (at > 0) != round {
         edge.next_left
     } else {
@@ -83,8 +84,9 @@ fn forward(edge: IdNumber) -> Option<Signed> {
 }
 
 /// The smallest signed edge that leaves a node, by rows that rise by id.
-fn smallest_leaving(edges: &[EdgeRow], node: IdNumber) -> Option<SignedNumber> {
-    for edge in edges {
+fn smallest_leaving(edges: &EdgeTable, node: IdNumber) -> Option<SignedNumber> {
+    for row in 0..edges.len() {
+        let edge = edges.row(row);
         let Some(signed) = forward(edge.id) else {
             return None;
         };
@@ -110,7 +112,7 @@ fn number(edge: Option<Signed>) -> Option<SignedNumber> {
 /// `count` times.
 fn agree_in_turn<C: Ledger>(
     served: Served<'_>,
-    edges: &[EdgeRow],
+    edges: &EdgeTable,
     ring: SignedNumber,
     node: IdNumber,
     count: u32,
@@ -139,7 +141,7 @@ fn agree_in_turn<C: Ledger>(
 }
 
 /// Whether they agree for the outer ring with each of the nodes, and for a closed edge with its node.
-fn agree<C: Ledger>(alloc: Global, edges: &[EdgeRow], bytes: &[u8], blank: Blank) -> bool
+fn agree<C: Ledger>(alloc: Global, edges: &EdgeTable, bytes: &[u8], blank: Blank) -> bool
     requires name { blank.name ≡ C.name }
     requires parts { blank.parts ≡ C.parts }
     requires some { 0 < blank.parts }

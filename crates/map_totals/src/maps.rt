@@ -4,7 +4,7 @@ ghost use Rattle.std.specs.Prelude.{◌≤◌};
 
 use map_build::build;
 use map_maker::grid;
-use plane_model::{EdgeRow, FaceRow, NodeRow, Tables};
+use plane_model::{EdgeRow, EdgeTable, FaceRow, NodeRow, NodeTable, Tables};
 use std::alloc::{AllocError, Global};
 use std::test::Fail;
 use topo_base::{IdNumber, SignedNumber};
@@ -13,8 +13,8 @@ use worked_maps::within_limits;
 /// The image of these rows.
 fn image_of(
     alloc: Global,
-    nodes: Vec<NodeRow>,
-    edges: Vec<EdgeRow>,
+    nodes: NodeTable,
+    edges: EdgeTable,
     faces: Vec<FaceRow>,
 ) -> Result<Vec<u8>, Fail> {
     let tables = Tables {
@@ -32,7 +32,7 @@ fn image_of(
 }
 
 /// The edges of a grid.
-pub fn grid_edges(alloc: Global, n: u32) -> Result<Vec<EdgeRow>, Fail>
+pub fn grid_edges(alloc: Global, n: u32) -> Result<EdgeTable, Fail>
     requires some { 1 ≤ n }
     requires size { n ≤ 1000 }
 {
@@ -125,16 +125,26 @@ fn face(id: u16) -> FaceRow {
     FaceRow { id: id as IdNumber }
 }
 
-fn joined_nodes(alloc: Global, count: u16) -> Result<Vec<NodeRow>, AllocError> {
-    (1..=count).map(joined_node).collect(alloc)
+/// Nodes 1 to `count`, which are not isolated.
+fn joined_nodes(alloc: Global, count: u16) -> Result<NodeTable, AllocError> {
+    let mut nodes = NodeTable::new(alloc);
+    for id in 1..=count {
+        nodes.push(joined_node(id))?;
+    }
+    Ok(nodes)
 }
 
 fn faces(alloc: Global, count: u16) -> Result<Vec<FaceRow>, AllocError> {
     (1..=count).map(face).collect(alloc)
 }
 
-fn web_edges(alloc: Global) -> Result<Vec<EdgeRow>, AllocError> {
-    (0..60).map(web_edge).collect(alloc)
+/// The edges of the web, by id.
+fn web_edges(alloc: Global) -> Result<EdgeTable, AllocError> {
+    let mut edges = EdgeTable::new(alloc);
+    for k in 0..60 {
+        edges.push(web_edge(k))?;
+    }
+    Ok(edges)
 }
 
 /// The image of a web: edges 1 to 20 are a ring round face 1, edges 21 to 40 one round that, and edges 41 to 60 join
@@ -158,8 +168,13 @@ fn closed_edge(id: u16) -> EdgeRow {
     }
 }
 
-fn closed_edges(alloc: Global, count: u16) -> Result<Vec<EdgeRow>, AllocError> {
-    (1..=count).rev().map(closed_edge).collect(alloc)
+/// Closed edges 1 to `count`, the last one first.
+fn closed_edges(alloc: Global, count: u16) -> Result<EdgeTable, AllocError> {
+    let mut edges = EdgeTable::new(alloc);
+    for id in (1..=count).rev() {
+        edges.push(closed_edge(id))?;
+    }
+    Ok(edges)
 }
 
 /// The image of closed edge 1 round face 1, of 10,000 closed edges in that face, and of node 10,002 in it.

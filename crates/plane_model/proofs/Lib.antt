@@ -1,3 +1,4 @@
+pub mod RowsLeft
 pub mod SetLaws
 pub mod Closed
 pub mod Rounds

@@ -1,3 +1,5 @@
+pub mod EdgeTable
+pub mod NodeTable
 pub mod Rows
 pub mod Sets
 pub mod Reading

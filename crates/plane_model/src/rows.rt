@@ -1,5 +1,7 @@
 //! Rows of the five tables, as PostGIS Topology has them; regions and their members are ours.
 
+use crate::edge_table::EdgeTable;
+use crate::node_table::NodeTable;
 use topo_base::{IdNumber, SignedNumber};
 
 /// A node. `face` is the face that contains it where no edge ends there, and `None` else.
@@ -46,8 +48,8 @@ pub struct MemberRow {
 /// The rows of the five tables, in the order of the files.
 #[derive(Debug, Drop)]
 pub struct Tables {
-    pub nodes: Vec<NodeRow>,
-    pub edges: Vec<EdgeRow>,
+    pub nodes: NodeTable,
+    pub edges: EdgeTable,
     pub faces: Vec<FaceRow>,
     pub regions: Vec<RegionRow>,
     pub members: Vec<MemberRow>,

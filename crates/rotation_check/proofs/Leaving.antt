@@ -1,7 +1,7 @@
 -- How many signed edges leave a node, and how many have a signed edge for their next, as counts of darts.
 use Rattle.std.proofs.Common.{◌≡◌, ℕ, zero, suc, ◌*◌, ◌<◌, inl, inr, ℤ, pos, Bool, true, false, ◌==◌, List, [], ◌∷◌, filter, length, get_or, refl, sym, ap, ◌∙◌, subst, arith, eq-eqb, Some, None}
-use Rattle.std.specs.Prelude.{nat_lt, is_some, unwrap_or, option_map}
-use Rattle.std.proofs.lemmas.Option.{slice_get-get_or}
+use Rattle.std.specs.Prelude.{nat_lt, is_some, unwrap_or, option_map, slice_get}
+use Rattle.std.proofs.lemmas.Option.{slice_get_within}
 use Rattle.std.proofs.lemmas.Bool.{eqb-true, cases_Bool, both_ways, lt-ltb, ne_eqb}
 use Rattle.topo_base.specs.SignedEdge.{same_edge}
 use Rattle.topo_base.specs.declared.refusal.Refusal.TheVariants as refusal
@@ -80,9 +80,9 @@ face_fits m n k is e = by_case (is_some n.face) k refl is e
     by_case false (suc j) f l q = rw (f, l, lt-ltb 0 (suc j) (omega arith)) refl
 
 -- the same of the row of a loop
-pub face_loop : (t : Rows) (nexts rows counts : List ℕ) (ns : List NodeRow) (k : ℕ) (d : NodeRow) → AreDarts t nexts rows → AreCountsOfEach rows (length t.nodes) counts → ns ≡ t.nodes → k < length ns
-    → length (leaving (map_of t) (get_or ns k d).id) ≡ get_or counts k 0
-face_loop t nexts rows counts ns k d darts are is h =
-    let lt : k < length t.nodes = subst (λ xs. k < length xs) is h in
-    let id_is : node_id t.nodes k ≡ (get_or ns k d).id = ap (λ o. unwrap_or (option_map (λ (n : NodeRow). n.id) o) 0) (slice_get-get_or t.nodes k d lt) ∙ ap (λ (xs : List NodeRow). (get_or xs k d).id) (sym is) in
+pub face_loop : (t : Rows) (nexts rows counts : List ℕ) (k : ℕ) (node : NodeRow) → AreDarts t nexts rows → AreCountsOfEach rows (length t.nodes) counts → slice_get t.nodes k ≡ Some node
+    → length (leaving (map_of t) node.id) ≡ get_or counts k 0
+face_loop t nexts rows counts k node darts are at =
+    let lt = slice_get_within t.nodes k node at in
+    let id_is : node_id t.nodes k ≡ node.id = ap (λ o. unwrap_or (option_map (λ (n : NodeRow). n.id) o) 0) at in
     ap (λ n. length (leaving (map_of t) n)) (sym id_is) ∙ leaving-count t nexts rows darts k lt ∙ sym (are.count k lt)

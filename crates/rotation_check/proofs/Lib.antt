@@ -1,3 +1,4 @@
+pub mod MoreIds
 pub mod Sides
 pub mod FirstIn
 pub mod DartLists

@@ -6,7 +6,7 @@ use Rattle.std.proofs.lemmas.Bool.{cases_lt, cases_eq, ne_eqb}
 use Rattle.std.proofs.lemmas.List.{length-append}
 use Rattle.std.proofs.Math.ListN.{get_or-append}
 use Rattle.std.proofs.lemmas.List.{get_or_push}
-use Rattle.std.proofs.lemmas.Option.{unwrap_or-slice_get, slice_get-map, slice_get_within, slice_get-get_or}
+use Rattle.std.proofs.lemmas.Option.{unwrap_or-slice_get, slice_get-map, slice_get_within, slice_get-get_or, get_or_from_slice_get}
 use Rattle.std.proofs.lemmas.Map.Keys.{any_passes_from_place}
 use Rattle.topo_base.specs.declared.refusal.Refusal.{Refusal}
 use Rattle.topo_base.specs.SignedEdge.{edge_of, is_forward}
@@ -99,13 +99,12 @@ node_with t row id h =
     let r = row_with (λ n. n.id) t.nodes row id h in
     (slice_get_within t.nodes row r.0 r.1, rw r.1 r.2)
 
-pub nodes_next : (t : Rows) (k : ℕ) (nodes : List ℕ) (s e : ℕ) → is_distinct (map (λ e. e.id) t.edges) ≡ true → list_all (λ e. nat_lt 0 e.id) t.edges ≡ true → k < length t.edges
-    → slice_get (map (λ n. n.id) t.nodes) s ≡ Some (get_or t.edges k no_edge).start → slice_get (map (λ n. n.id) t.nodes) e ≡ Some (get_or t.edges k no_edge).end
-    → no_node (map_of t) (get_or t.edges k no_edge) ≡ None → NodesTo t k nodes → NodesTo t (k + 1) ((nodes ++ s ∷ []) ++ e ∷ [])
+pub nodes_next : (t : Rows) (k : ℕ) (nodes : List ℕ) (s e : ℕ) (edge : EdgeRow) → is_distinct (map (λ e. e.id) t.edges) ≡ true → list_all (λ e. nat_lt 0 e.id) t.edges ≡ true → slice_get t.edges k ≡ Some edge
+    → slice_get (map (λ n. n.id) t.nodes) s ≡ Some edge.start → slice_get (map (λ n. n.id) t.nodes) e ≡ Some edge.end
+    → no_node (map_of t) edge ≡ None → NodesTo t k nodes → NodesTo t (k + 1) ((nodes ++ s ∷ []) ++ e ∷ [])
 unfolding IsNodeOf
-nodes_next t k nodes s e distinct ids h start end fine old =
-    let at = slice_get-get_or t.edges k no_edge h in
-    let edge = get_or t.edges k no_edge in
+nodes_next t k nodes s e edge distinct ids at start end fine old =
+    let same = get_or_from_slice_get t.edges k edge no_edge at in
     let a = node_with t s edge.start start in
     let b = node_with t e edge.end end in
     let forward : origin (map_of t) (signed_edge t.edges (2 * k)) ≡ edge.start = ap (origin (map_of t)) (signed-even t.edges k edge at) ∙ ap (λ r. r.start) (row_of-forward t k edge distinct at) in
@@ -117,7 +116,7 @@ nodes_next t k nodes s e distinct ids h start end fine old =
     record {
       size = omega arith;
       are = pairs_next (IsNodeOf t) nodes k s e old.size old.are (a.0, a.1 ∙ sym forward) (b.0, b.1 ∙ sym backward);
-      rest = first_in-drop (no_node (map_of t)) t.edges k no_edge h fine ∙ old.rest;
+      rest = first_in-drop (no_node (map_of t)) t.edges k no_edge (slice_get_within t.edges k edge at) (ap (no_node (map_of t)) same ∙ fine) ∙ old.rest;
     }
 
 pub nodes_first : (t : Rows) → NodesTo t 0 []
@@ -136,13 +135,12 @@ pub record NextsTo (t : Rows) (k : ℕ) (nexts : List ℕ) : Type 0 where
   pub are : (dart : ℕ) → dart < 2 * k → IsNextOf t dart (get_or nexts dart 0)
   pub rest : first_in (no_edge_row (map_of t)) (drop k t.edges) ≡ first_in (no_edge_row (map_of t)) t.edges
 
-pub nexts_next : (t : Rows) (k : ℕ) (nexts : List ℕ) (l r : ℕ) → is_distinct (map (λ e. e.id) t.edges) ≡ true → list_all (λ e. nat_lt 0 e.id) t.edges ≡ true → k < length t.edges
-    → IsDartOf t.edges (get_or t.edges k no_edge).next_left l → IsDartOf t.edges (get_or t.edges k no_edge).next_right r
-    → no_edge_row (map_of t) (get_or t.edges k no_edge) ≡ None → NextsTo t k nexts → NextsTo t (k + 1) ((nexts ++ l ∷ []) ++ r ∷ [])
+pub nexts_next : (t : Rows) (k : ℕ) (nexts : List ℕ) (l r : ℕ) (edge : EdgeRow) → is_distinct (map (λ e. e.id) t.edges) ≡ true → list_all (λ e. nat_lt 0 e.id) t.edges ≡ true → slice_get t.edges k ≡ Some edge
+    → IsDartOf t.edges edge.next_left l → IsDartOf t.edges edge.next_right r
+    → no_edge_row (map_of t) edge ≡ None → NextsTo t k nexts → NextsTo t (k + 1) ((nexts ++ l ∷ []) ++ r ∷ [])
 unfolding IsNextOf
-nexts_next t k nexts l r distinct ids h left right fine old =
-    let at = slice_get-get_or t.edges k no_edge h in
-    let edge = get_or t.edges k no_edge in
+nexts_next t k nexts l r edge distinct ids at left right fine old =
+    let same = get_or_from_slice_get t.edges k edge no_edge at in
     let forward : next (map_of t) (signed_edge t.edges (2 * k)) ≡ edge.next_left = ap (next (map_of t)) (signed-even t.edges k edge at) ∙ ap (λ r. r.next_left) (row_of-forward t k edge distinct at) in
     let backward : next (map_of t) (signed_edge t.edges (2 * k + 1)) ≡ edge.next_right =
     ap (next (map_of t)) (signed-odd t.edges k edge at) ∙ rw (is_backward edge.id (positive_id t.edges k edge ids at)) (ap (λ r. r.next_right) (row_of-backward t k edge distinct at)) in
@@ -152,7 +150,7 @@ nexts_next t k nexts l r distinct ids h left right fine old =
     record {
       size = omega arith;
       are = pairs_next (IsNextOf t) nexts k l r old.size old.are (left.within, left.is ∙ sym forward) (right.within, right.is ∙ sym backward);
-      rest = first_in-drop (no_edge_row (map_of t)) t.edges k no_edge h fine ∙ old.rest;
+      rest = first_in-drop (no_edge_row (map_of t)) t.edges k no_edge (slice_get_within t.edges k edge at) (ap (no_edge_row (map_of t)) same ∙ fine) ∙ old.rest;
     }
 
 pub nexts_all : (t : Rows) (nexts : List ℕ) → NextsTo t (length t.edges) nexts → AreNexts t.edges nexts
@@ -165,32 +163,24 @@ row_within edges row id h = let r = row_with (λ e. e.id) edges row id h in slic
 pub nexts_first : (t : Rows) → NextsTo t 0 []
 nexts_first t = record { size = refl; are = λ dart h. absurd (omega arith); rest = refl }
 
--- the same for the rows that a loop reads
-pub nodes_step : (t : Rows) (es : List EdgeRow) → es ≡ t.edges → (k : ℕ) (nodes mid more : List ℕ) (s e : ℕ) → is_distinct (map (λ e. e.id) t.edges) ≡ true → list_all (λ e. nat_lt 0 e.id) t.edges ≡ true → k < length es
-    → slice_get (map (λ n. n.id) t.nodes) s ≡ Some (get_or es k no_edge).start → slice_get (map (λ n. n.id) t.nodes) e ≡ Some (get_or es k no_edge).end
-    → no_node (map_of t) (get_or es k no_edge) ≡ None → mid ≡ nodes ++ s ∷ [] → more ≡ mid ++ e ∷ [] → NodesTo t k nodes → NodesTo t (k + 1) more
-nodes_step t es is k nodes mid more s e distinct ids h start end fine first second old =
-    subst (NodesTo t (k + 1)) (sym (second ∙ ap (λ xs. xs ++ e ∷ []) first))
-    (nodes_next t k nodes s e distinct ids (subst (λ xs. k < length xs) is h) (subst (λ xs. slice_get (map (λ n. n.id) t.nodes) s ≡ Some (get_or xs k no_edge).start) is start)
-    (subst (λ xs. slice_get (map (λ n. n.id) t.nodes) e ≡ Some (get_or xs k no_edge).end) is end) (subst (λ xs. no_node (map_of t) (get_or xs k no_edge) ≡ None) is fine) old)
+-- the same for the lists that a loop pushes to
+pub nodes_step : (t : Rows) (k : ℕ) (nodes mid more : List ℕ) (s e : ℕ) (edge : EdgeRow) → is_distinct (map (λ e. e.id) t.edges) ≡ true → list_all (λ e. nat_lt 0 e.id) t.edges ≡ true → slice_get t.edges k ≡ Some edge
+    → slice_get (map (λ n. n.id) t.nodes) s ≡ Some edge.start → slice_get (map (λ n. n.id) t.nodes) e ≡ Some edge.end
+    → no_node (map_of t) edge ≡ None → mid ≡ nodes ++ s ∷ [] → more ≡ mid ++ e ∷ [] → NodesTo t k nodes → NodesTo t (k + 1) more
+nodes_step t k nodes mid more s e edge distinct ids at start end fine first second old =
+    subst (NodesTo t (k + 1)) (sym (second ∙ ap (λ xs. xs ++ e ∷ []) first)) (nodes_next t k nodes s e edge distinct ids at start end fine old)
 
-pub nodes_done : (t : Rows) (es : List EdgeRow) → es ≡ t.edges → (k : ℕ) (nodes : List ℕ) → length es ≤ k → k ≤ length es → NodesTo t k nodes → AreNodes t.nodes t.edges nodes
-nodes_done t es is k nodes ge le all =
-    let l = ap length is in
-    nodes_all t nodes (subst (λ j. NodesTo t j nodes) (let e : k ≡ length t.edges = omega arith in e) all)
+pub nodes_done : (t : Rows) (k n : ℕ) (nodes : List ℕ) → n ≡ length t.edges → n ≤ k → k ≤ n → NodesTo t k nodes → AreNodes t.nodes t.edges nodes
+nodes_done t k n nodes is ge le all = nodes_all t nodes (subst (λ j. NodesTo t j nodes) (let e : k ≡ length t.edges = omega arith in e) all)
 
-pub nexts_step : (t : Rows) (es : List EdgeRow) → es ≡ t.edges → (k : ℕ) (nexts mid more : List ℕ) (l r : ℕ) → is_distinct (map (λ e. e.id) t.edges) ≡ true → list_all (λ e. nat_lt 0 e.id) t.edges ≡ true → k < length es
-    → IsDartOf t.edges (get_or es k no_edge).next_left l → IsDartOf t.edges (get_or es k no_edge).next_right r
-    → no_edge_row (map_of t) (get_or es k no_edge) ≡ None → mid ≡ nexts ++ l ∷ [] → more ≡ mid ++ r ∷ [] → NextsTo t k nexts → NextsTo t (k + 1) more
-nexts_step t es is k nexts mid more l r distinct ids h left right fine first second old =
-    subst (NextsTo t (k + 1)) (sym (second ∙ ap (λ xs. xs ++ r ∷ []) first))
-    (nexts_next t k nexts l r distinct ids (subst (λ xs. k < length xs) is h) (subst (λ xs. IsDartOf t.edges (get_or xs k no_edge).next_left l) is left)
-    (subst (λ xs. IsDartOf t.edges (get_or xs k no_edge).next_right r) is right) (subst (λ xs. no_edge_row (map_of t) (get_or xs k no_edge) ≡ None) is fine) old)
+pub nexts_step : (t : Rows) (k : ℕ) (nexts mid more : List ℕ) (l r : ℕ) (edge : EdgeRow) → is_distinct (map (λ e. e.id) t.edges) ≡ true → list_all (λ e. nat_lt 0 e.id) t.edges ≡ true → slice_get t.edges k ≡ Some edge
+    → IsDartOf t.edges edge.next_left l → IsDartOf t.edges edge.next_right r
+    → no_edge_row (map_of t) edge ≡ None → mid ≡ nexts ++ l ∷ [] → more ≡ mid ++ r ∷ [] → NextsTo t k nexts → NextsTo t (k + 1) more
+nexts_step t k nexts mid more l r edge distinct ids at left right fine first second old =
+    subst (NextsTo t (k + 1)) (sym (second ∙ ap (λ xs. xs ++ r ∷ []) first)) (nexts_next t k nexts l r edge distinct ids at left right fine old)
 
-pub nexts_done : (t : Rows) (es : List EdgeRow) → es ≡ t.edges → (k : ℕ) (nexts : List ℕ) → length es ≤ k → k ≤ length es → NextsTo t k nexts → AreNexts t.edges nexts
-nexts_done t es is k nexts ge le all =
-    let l = ap length is in
-    nexts_all t nexts (subst (λ j. NextsTo t j nexts) (let e : k ≡ length t.edges = omega arith in e) all)
+pub nexts_done : (t : Rows) (k n : ℕ) (nexts : List ℕ) → n ≡ length t.edges → n ≤ k → k ≤ n → NextsTo t k nexts → AreNexts t.edges nexts
+nexts_done t k n nexts is ge le all = nexts_all t nexts (subst (λ j. NextsTo t j nexts) (let e : k ≡ length t.edges = omega arith in e) all)
 
 -- the edge of a dart has a row
 edge_of-signed : (edges : List EdgeRow) (dart : ℕ) → edge_of (signed_edge edges dart) ≡ (get_or edges (dart / 2) no_edge).id

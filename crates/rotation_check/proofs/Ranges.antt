@@ -1,10 +1,11 @@
 -- What tables in range say of their rows.
-use Rattle.std.proofs.Common.{ℤ, pos, negsuc, w64, SFits, ◌≡◌, ℕ, zero, suc, ◌<◌, ◌≤◌, Bool, true, List, [], ◌∷◌, length, get_or, refl, arith}
+use Rattle.std.proofs.Common.{ℤ, pos, negsuc, w64, SFits, ◌≡◌, ℕ, zero, suc, ◌<◌, ◌≤◌, Bool, true, List, [], ◌∷◌, length, get_or, refl, subst, Some, arith}
 use Rattle.std.specs.Prelude.{nat_le, nat_lt}
 use Rattle.std.specs.Int.{Width}
 use Rattle.std.proofs.Common.{of_z, to_z}
 use Rattle.std.proofs.Math.Facts.{to_z-of_z}
-use Rattle.std.specs.List.{list_all}
+use Rattle.std.specs.List.{list_all, slice_get}
+use Rattle.std.proofs.lemmas.Option.{get_or_from_slice_get, slice_get_within}
 use Rattle.std.proofs.lemmas.Bool.{and_parts, and_from, leb-true, ltb-true, le-leb, lt-ltb}
 use Rattle.topo_base.specs.declared.id.TheConstants.{LARGEST_ID}
 use Rattle.topo_base.specs.SignedEdge.{edge_of, is_signed_edge}
@@ -65,6 +66,11 @@ all_ids [] h = refl
 all_ids (e ∷ edges) h =
     let parts = and_parts (is_edge_in_range e) (list_all is_edge_in_range edges) h in
     and_from (is_id e.id) (list_all (λ e. is_id e.id) edges) (edge_parts e parts.0).id (all_ids edges parts.1)
+
+-- the row at a place has an id
+pub row_has_id : (edges : List EdgeRow) (k : ℕ) (edge : EdgeRow) → list_all (λ e. is_id e.id) edges ≡ true → slice_get edges k ≡ Some edge → is_id edge.id ≡ true
+row_has_id edges k edge all here =
+    subst (λ e. is_id e.id ≡ true) (get_or_from_slice_get edges k edge edge here) (at_place (λ e. is_id e.id) edges k edge (slice_get_within edges k edge here) all)
 
 -- the ids of edges are ids
 pub edge_ids_are : (t : Rows) → is_in_range t ≡ true → list_all (λ e. is_id e.id) t.edges ≡ true

@@ -1,7 +1,8 @@
 -- Whether the signed edges that leave a node are one orbit, by one round, and the least node where they are not.
 use Rattle.std.proofs.Common.{◌≡◌, ℕ, zero, suc, ◌+◌, ◌*◌, ◌<◌, ◌≤◌, min, inl, inr, ℤ, Bool, true, false, not, ◌==◌, List, [], ◌∷◌, map, length, get_or, refl, sym, ap, ◌∙◌, subst, arith, eq-eqb, Option, Some, None}
-use Rattle.std.specs.Prelude.{is_none, find, option_map}
+use Rattle.std.specs.Prelude.{is_none, find, option_map, slice_get}
 use Rattle.std.specs.Option.{option_map_or}
+use Rattle.std.proofs.lemmas.Option.{get_or_from_slice_get, slice_get-map}
 use Rattle.std.specs.List.{list_all}
 use Rattle.std.proofs.lemmas.Bool.{eqb-true, and_from, or_cases, cases_Bool, cases_lt, or_left, or_right, both_ways}
 use Rattle.std.proofs.lemmas.List.{length-map}
@@ -212,14 +213,8 @@ pub split_node_some : (t : Rows) (k : ℕ) (least : Option ℕ) (n : ℕ) → k 
 split_node_some t k least n whole is all = split_least t k least whole all ∙ ap (option_map refusal.SplitNode) is
 
 -- the id of the nth that a loop reads
-pub id_of_row : (t : Rows) (ns : List NodeRow) (k : ℕ) (d : NodeRow) → ns ≡ t.nodes → k < length ns → (get_or ns k d).id ≡ node_ids_of t k
-id_of_row t ns k d is h =
-    ap (λ (xs : List NodeRow). (get_or xs k d).id) is ∙ sym (get_or-map (λ (n : NodeRow). n.id) t.nodes k 0 d (subst (λ xs. k < length xs) is h))
-  where
-    get_or-map : (f : NodeRow → ℕ) (xs : List NodeRow) (k z : ℕ) (d : NodeRow) → k < length xs → get_or (map f xs) k z ≡ f (get_or xs k d)
-    get_or-map f [] k z d h = absurd (omega arith)
-    get_or-map f (x ∷ xs) zero z d h = refl
-    get_or-map f (x ∷ xs) (suc k) z d h = get_or-map f xs k z d (omega arith)
+pub id_of_row : (t : Rows) (k : ℕ) (node : NodeRow) → slice_get t.nodes k ≡ Some node → node.id ≡ node_ids_of t k
+id_of_row t k node at = sym (get_or_from_slice_get (map (λ n. n.id) t.nodes) k node.id 0 (slice_get-map (λ (n : NodeRow). n.id) t.nodes k ∙ ap (option_map (λ (n : NodeRow). n.id)) at))
 
 pub split_at_row : (t : Rows) (k : ℕ) (b answer : Bool) → answer ≡ not (is_one_orbit (map_of t) (leaving (map_of t) (node_id t.nodes k))) → answer ≡ b → is_split_at t (node_ids_of t k) ≡ b
 split_at_row t k b answer is h = ap (is_split_at t) (sym (node_id-get t.nodes k)) ∙ sym is ∙ h

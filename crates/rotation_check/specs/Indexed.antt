@@ -7,11 +7,11 @@ use Rattle.rotation_check.specs.declared.missing_faces.FaceIndex.{FaceIndex}
 
 -- the rows of nodes
 abbrev pub IsNodeIndex : NodeIndex → Type 0
-IsNodeIndex index = IsIndex (map (λ n. n.id) index.tables.now.nodes.items) index.rows
+IsNodeIndex index = IsIndex (map (λ n. n.id) index.tables.now.nodes) index.rows
 
 -- the rows of edges
 abbrev pub IsEdgeIndex : EdgeIndex → Type 0
-IsEdgeIndex index = IsIndex (map (λ e. e.id) index.tables.now.edges.items) index.rows
+IsEdgeIndex index = IsIndex (map (λ e. e.id) index.tables.now.edges) index.rows
 
 -- the rows of faces
 abbrev pub IsFaceIndex : FaceIndex → Type 0

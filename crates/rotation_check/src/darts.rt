@@ -61,7 +61,7 @@ impl<'a> Darts<'a> {
     /// How many darts there are.
     pub fn count(&self) -> u32
         requires { IsNumbered self.now }
-        ensures { result ≡ 2 * length self.now.tables.now.edges.items }
+        ensures { result ≡ 2 * length self.now.tables.now.edges }
     {
         self.next.len() as u32
     }
@@ -69,8 +69,8 @@ impl<'a> Darts<'a> {
     /// The signed edge of a dart.
     pub fn signed(&self, dart: u32) -> Signed
         requires numbered { IsNumbered self.now }
-        requires within { dart < 2 * length self.now.tables.now.edges.items }
-        ensures { result ≡ signed_edge self.now.tables.now.edges.items dart }
+        requires within { dart < 2 * length self.now.tables.now.edges }
+        ensures { result ≡ signed_edge self.now.tables.now.edges dart }
     {
         signed_of_dart(&self.tables.edges, dart)
     }
@@ -78,7 +78,7 @@ impl<'a> Darts<'a> {
     /// The dart after a dart round the node that it leaves.
     pub fn turn(&self, dart: u32) -> u32
         requires numbered { IsNumbered self.now }
-        requires within { dart < 2 * length self.now.tables.now.edges.items }
+        requires within { dart < 2 * length self.now.tables.now.edges }
         ensures { result ≡ slice_index self.now.next.items (reverse_dart dart) }
     {
         self.next[reversed(dart) as usize]
@@ -87,8 +87,8 @@ impl<'a> Darts<'a> {
     /// What is wrong where the next of a dart does not leave its head.
     pub fn wrong_end(&self, dart: u32) -> Option<Refusal>
         requires numbered { IsNumbered self.now }
-        requires within { dart < 2 * length self.now.tables.now.edges.items }
-        ensures { result ≡ wrong_end (map_of_darts self.now) (signed_edge self.now.tables.now.edges.items dart) }
+        requires within { dart < 2 * length self.now.tables.now.edges }
+        ensures { result ≡ wrong_end (map_of_darts self.now) (signed_edge self.now.tables.now.edges dart) }
     {
         let next = self.next[dart as usize];
         if self.node[next as usize] == self.node[reversed(dart) as usize] {
@@ -103,7 +103,7 @@ impl<'a> Darts<'a> {
     /// The first dart whose next does not leave its head.
     pub fn first_wrong_end(&self) -> Option<Refusal>
         requires { IsNumbered self.now }
-        ensures { result ≡ first_in (either_way (wrong_end (map_of_darts self.now))) self.now.tables.now.edges.items }
+        ensures { result ≡ first_in (either_way (wrong_end (map_of_darts self.now))) self.now.tables.now.edges }
     {
         for dart in 0..self.count() {
             let fault = self.wrong_end(dart);
@@ -117,7 +117,7 @@ impl<'a> Darts<'a> {
     /// The smallest signed edge that is the next of two; `befores` says of how many each dart is the next.
     pub fn smallest_next_of_two(&self, befores: &[u32]) -> Option<Refusal>
         requires numbered { IsNumbered self.now }
-        requires counts { AreCountsOfEach self.now.next.items (2 * length self.now.tables.now.edges.items) befores.now }
+        requires counts { AreCountsOfEach self.now.next.items (2 * length self.now.tables.now.edges) befores.now }
         ensures { result ≡ next_twice (map_of_darts self.now) }
     {
         let mut smallest: Option<Signed> = None;
@@ -134,8 +134,8 @@ impl<'a> Darts<'a> {
     pub fn round_length(&self, dart: u32) -> u32
         requires numbered { IsNumbered self.now }
         requires permutes { Permutes (signed_edges (map_of_darts self.now)) (turn (map_of_darts self.now)) }
-        requires within { dart < 2 * length self.now.tables.now.edges.items }
-        ensures { result ≡ length (round (map_of_darts self.now) (signed_edge self.now.tables.now.edges.items dart)) }
+        requires within { dart < 2 * length self.now.tables.now.edges }
+        ensures { result ≡ length (round (map_of_darts self.now) (signed_edge self.now.tables.now.edges dart)) }
     {
         let mut length = 1;
         let mut at = self.turn(dart);
@@ -149,14 +149,14 @@ impl<'a> Darts<'a> {
     /// Whether the darts that leave the node of a row are more than one orbit.
     pub fn is_split(&self, row: usize, counts: &[u32], places: &[u32]) -> bool
         requires numbered { IsNumbered self.now }
-        requires ends { first_in (either_way (wrong_end (map_of_darts self.now))) self.now.tables.now.edges.items
+        requires ends { first_in (either_way (wrong_end (map_of_darts self.now))) self.now.tables.now.edges
             ≡ None }
         requires once { next_twice (map_of_darts self.now) ≡ None }
-        requires row { row < length self.now.tables.now.nodes.items }
-        requires counts { AreCountsOfEach self.now.node.items (length self.now.tables.now.nodes.items) counts.now }
-        requires places { ArePlacesOfEach self.now.node.items (length self.now.tables.now.nodes.items) places.now }
+        requires row { row < length self.now.tables.now.nodes }
+        requires counts { AreCountsOfEach self.now.node.items (length self.now.tables.now.nodes) counts.now }
+        requires places { ArePlacesOfEach self.now.node.items (length self.now.tables.now.nodes) places.now }
         ensures { result ≡ not (is_one_orbit (map_of_darts self.now)
-            (leaving (map_of_darts self.now) (node_id self.now.tables.now.nodes.items row))) }
+            (leaving (map_of_darts self.now) (node_id self.now.tables.now.nodes row))) }
     {
         counts[row] > 0 && self.round_length(places[row]) != counts[row]
     }
@@ -165,17 +165,18 @@ impl<'a> Darts<'a> {
     /// of them.
     pub fn least_split_node(&self, counts: &[u32], places: &[u32]) -> Option<Refusal>
         requires numbered { IsNumbered self.now }
-        requires ends { first_in (either_way (wrong_end (map_of_darts self.now))) self.now.tables.now.edges.items
+        requires ends { first_in (either_way (wrong_end (map_of_darts self.now))) self.now.tables.now.edges
             ≡ None }
         requires once { next_twice (map_of_darts self.now) ≡ None }
-        requires counts { AreCountsOfEach self.now.node.items (length self.now.tables.now.nodes.items) counts.now }
-        requires places { ArePlacesOfEach self.now.node.items (length self.now.tables.now.nodes.items) places.now }
+        requires counts { AreCountsOfEach self.now.node.items (length self.now.tables.now.nodes) counts.now }
+        requires places { ArePlacesOfEach self.now.node.items (length self.now.tables.now.nodes) places.now }
         ensures { result ≡ split_node (map_of_darts self.now) }
     {
         let mut least: Option<IdNumber> = None;
-        for (row, node) in self.tables.nodes.iter().enumerate() {
+        let nodes = &self.tables.nodes;
+        for row in 0..nodes.len() {
             if self.is_split(row, counts, places) {
-                least = Some(lesser_of(least, node.id));
+                least = Some(lesser_of(least, nodes.row(row).id));
             }
         }
         let node = least?;
@@ -186,10 +187,12 @@ impl<'a> Darts<'a> {
     /// leave each node.
     pub fn first_node_with_face(&self, counts: &[u32]) -> Option<Refusal>
         requires numbered { IsNumbered self.now }
-        requires counts { AreCountsOfEach self.now.node.items (length self.now.tables.now.nodes.items) counts.now }
-        ensures { result ≡ first_in (node_with_face (map_of_darts self.now)) self.now.tables.now.nodes.items }
+        requires counts { AreCountsOfEach self.now.node.items (length self.now.tables.now.nodes) counts.now }
+        ensures { result ≡ first_in (node_with_face (map_of_darts self.now)) self.now.tables.now.nodes }
     {
-        for (row, node) in self.tables.nodes.iter().enumerate() {
+        let nodes = &self.tables.nodes;
+        for row in 0..nodes.len() {
+            let node = nodes.row(row);
             if node.face.is_some() == (counts[row] > 0) {
                 return Some(Refusal::NodeFace { node: node.id });
             }

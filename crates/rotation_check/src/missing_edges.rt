@@ -29,10 +29,10 @@ impl<'a> EdgeIndex<'a> {
     /// The dart of a signed edge, where the edge has a row.
     pub fn dart_of(&self, number: SignedNumber) -> Option<u32>
         requires index { IsEdgeIndex self.now }
-        requires few { length self.now.tables.now.edges.items ≤ 16_777_216 }
+        requires few { length self.now.tables.now.edges ≤ 16_777_216 }
         requires signed { IsSignedEdge number }
-        ensures { MatchOption result (IsFalse (has (map (λ e. e.id) self.now.tables.now.edges.items) (edge_of number)))
-            (IsDartOf self.now.tables.now.edges.items number) }
+        ensures { MatchOption result (IsFalse (has (map (λ e. e.id) self.now.tables.now.edges) (edge_of number)))
+            (IsDartOf self.now.tables.now.edges number) }
     {
         let row = self.rows.row_of(edge_id(number))?;
         Some(if is_forward(number) {
@@ -46,11 +46,11 @@ impl<'a> EdgeIndex<'a> {
     /// row.
     pub fn darts_of_nexts(&self, edge: &EdgeRow) -> Result<(u32, u32), Refusal>
         requires index { IsEdgeIndex self.now }
-        requires few { length self.now.tables.now.edges.items ≤ 16_777_216 }
+        requires few { length self.now.tables.now.edges ≤ 16_777_216 }
         requires left { IsSignedEdge edge.now.next_left }
         requires right { IsSignedEdge edge.now.next_right }
-        ensures left { IfOk result (λ nexts. IsDartOf self.now.tables.now.edges.items edge.now.next_left nexts.0) }
-        ensures right { IfOk result (λ nexts. IsDartOf self.now.tables.now.edges.items edge.now.next_right nexts.1) }
+        ensures left { IfOk result (λ nexts. IsDartOf self.now.tables.now.edges edge.now.next_left nexts.0) }
+        ensures right { IfOk result (λ nexts. IsDartOf self.now.tables.now.edges edge.now.next_right nexts.1) }
         ensures fault { MatchResult result (λ _. no_edge_row (map_of (rows_of self.now.tables.now)) edge.now ≡ None)
             (λ e. no_edge_row (map_of (rows_of self.now.tables.now)) edge.now ≡ Some e) }
     {
@@ -72,18 +72,18 @@ impl<'a> EdgeIndex<'a> {
     /// The dart after each dart round the face on its left, or the first edge with a next value whose edge has no row.
     pub fn nexts_of_darts(&self, alloc: Global) -> Result<Vec<u32>, CheckFault>
         requires index { IsEdgeIndex self.now }
-        requires distinct { IsTrue (is_distinct (map (λ e. e.id) self.now.tables.now.edges.items)) }
+        requires distinct { IsTrue (is_distinct (map (λ e. e.id) self.now.tables.now.edges)) }
         requires in_range { IsTrue (is_in_range (rows_of self.now.tables.now)) }
-        ensures nexts { IfOk result (λ nexts. AreNexts self.now.tables.now.edges.items nexts.items) }
+        ensures nexts { IfOk result (λ nexts. AreNexts self.now.tables.now.edges nexts.items) }
         ensures fine { IfOk result (λ _. first_in (no_edge_row (map_of (rows_of self.now.tables.now)))
-            self.now.tables.now.edges.items ≡ None) }
+            self.now.tables.now.edges ≡ None) }
         ensures fault { IfErr result (λ e. Names e (first_in (no_edge_row (map_of (rows_of self.now.tables.now)))
-            self.now.tables.now.edges.items)) }
+            self.now.tables.now.edges)) }
     {
         let edges = &self.tables.edges;
         let mut nexts = Vec::with_capacity(alloc, 2 * edges.len())?;
-        for edge in edges {
-            let (left, right) = self.darts_of_nexts(edge)?;
+        for row in 0..edges.len() {
+            let (left, right) = self.darts_of_nexts(&edges.row(row))?;
             nexts.push(left)?;
             nexts.push(right)?;
         }

@@ -62,10 +62,11 @@ impl<'a> FaceIndex<'a> {
     /// The first edge beside a face that has no row.
     pub fn first_missing_side(&self) -> Option<Refusal>
         requires { IsFaceIndex self.now }
-        ensures { result ≡ first_in (no_face (map_of (rows_of self.now.tables.now))) self.now.tables.now.edges.items }
+        ensures { result ≡ first_in (no_face (map_of (rows_of self.now.tables.now))) self.now.tables.now.edges }
     {
-        for edge in &self.tables.edges {
-            let fault = self.missing_side(edge);
+        let edges = &self.tables.edges;
+        for row in 0..edges.len() {
+            let fault = self.missing_side(&edges.row(row));
             if fault.is_some() {
                 return fault;
             }
@@ -77,10 +78,11 @@ impl<'a> FaceIndex<'a> {
     pub fn first_missing_container(&self) -> Option<Refusal>
         requires { IsFaceIndex self.now }
         ensures { result ≡ first_in (no_containing_face (map_of (rows_of self.now.tables.now)))
-            self.now.tables.now.nodes.items }
+            self.now.tables.now.nodes }
     {
-        for node in &self.tables.nodes {
-            let fault = self.missing_container(node);
+        let nodes = &self.tables.nodes;
+        for row in 0..nodes.len() {
+            let fault = self.missing_container(&nodes.row(row));
             if fault.is_some() {
                 return fault;
             }

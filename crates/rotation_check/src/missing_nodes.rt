@@ -27,9 +27,9 @@ impl<'a> NodeIndex<'a> {
     /// The rows of the start and the end node of an edge, or the first of them that has none.
     pub fn rows_of_ends(&self, edge: &EdgeRow) -> Result<(u32, u32), Refusal>
         requires { IsNodeIndex self.now }
-        ensures start { IfOk result (λ ends. slice_get (map (λ n. n.id) self.now.tables.now.nodes.items) ends.0
+        ensures start { IfOk result (λ ends. slice_get (map (λ n. n.id) self.now.tables.now.nodes) ends.0
             ≡ Some edge.now.start) }
-        ensures end { IfOk result (λ ends. slice_get (map (λ n. n.id) self.now.tables.now.nodes.items) ends.1
+        ensures end { IfOk result (λ ends. slice_get (map (λ n. n.id) self.now.tables.now.nodes) ends.1
             ≡ Some edge.now.end) }
         ensures fault { MatchResult result (λ _. no_node (map_of (rows_of self.now.tables.now)) edge.now ≡ None)
             (λ e. no_node (map_of (rows_of self.now.tables.now)) edge.now ≡ Some e) }
@@ -52,19 +52,19 @@ impl<'a> NodeIndex<'a> {
     /// The row of the node that each dart leaves, or the first edge with a node that has no row.
     pub fn nodes_of_darts(&self, alloc: Global) -> Result<Vec<u32>, CheckFault>
         requires index { IsNodeIndex self.now }
-        requires distinct { IsTrue (is_distinct (map (λ e. e.id) self.now.tables.now.edges.items)) }
+        requires distinct { IsTrue (is_distinct (map (λ e. e.id) self.now.tables.now.edges)) }
         requires in_range { IsTrue (is_in_range (rows_of self.now.tables.now)) }
-        ensures nodes { IfOk result (λ nodes. AreNodes self.now.tables.now.nodes.items self.now.tables.now.edges.items
+        ensures nodes { IfOk result (λ nodes. AreNodes self.now.tables.now.nodes self.now.tables.now.edges
             nodes.items) }
         ensures fine { IfOk result (λ _. first_in (no_node (map_of (rows_of self.now.tables.now)))
-            self.now.tables.now.edges.items ≡ None) }
+            self.now.tables.now.edges ≡ None) }
         ensures fault { IfErr result (λ e. Names e (first_in (no_node (map_of (rows_of self.now.tables.now)))
-            self.now.tables.now.edges.items)) }
+            self.now.tables.now.edges)) }
     {
         let edges = &self.tables.edges;
         let mut nodes = Vec::with_capacity(alloc, 2 * edges.len())?;
-        for edge in edges {
-            let (start, end) = self.rows_of_ends(edge)?;
+        for row in 0..edges.len() {
+            let (start, end) = self.rows_of_ends(&edges.row(row))?;
             nodes.push(start)?;
             nodes.push(end)?;
         }

@@ -7,22 +7,30 @@ ghost use Rattle.rotation_check.specs.Checked.{Names};
 
 use crate::checking::{CheckFault, refuse};
 use id_index::IdIndex;
-use plane_model::{EdgeRow, FaceRow, NodeRow};
+use plane_model::{EdgeTable, FaceRow, NodeTable};
 use std::alloc::{AllocError, Global};
 use topo_base::{IdNumber, Refusal, Table};
 
 /// The ids of the rows of nodes.
-pub fn node_ids(alloc: Global, rows: &[NodeRow]) -> Result<Vec<IdNumber>, AllocError>
-    ensures { IfOk result (λ ids. ids.items ≡ map (λ r. r.id) rows.now) }
+pub fn node_ids(alloc: Global, table: &NodeTable) -> Result<Vec<IdNumber>, AllocError>
+    ensures { IfOk result (λ ids. ids.items ≡ map (λ r. r.id) table.now) }
 {
-    rows.iter().map(|row| row.id).collect(alloc)
+    let mut ids = Vec::with_capacity(alloc, table.len())?;
+    for place in 0..table.len() {
+        ids.push(table.row(place).id)?;
+    }
+    Ok(ids)
 }
 
 /// The ids of the rows of edges.
-pub fn edge_ids(alloc: Global, rows: &[EdgeRow]) -> Result<Vec<IdNumber>, AllocError>
-    ensures { IfOk result (λ ids. ids.items ≡ map (λ r. r.id) rows.now) }
+pub fn edge_ids(alloc: Global, table: &EdgeTable) -> Result<Vec<IdNumber>, AllocError>
+    ensures { IfOk result (λ ids. ids.items ≡ map (λ r. r.id) table.now) }
 {
-    rows.iter().map(|row| row.id).collect(alloc)
+    let mut ids = Vec::with_capacity(alloc, table.len())?;
+    for place in 0..table.len() {
+        ids.push(table.row(place).id)?;
+    }
+    Ok(ids)
 }
 
 /// The ids of the rows of faces.

@@ -25,8 +25,8 @@ impl<'a> Model for Rotation<'a> {
     ghost view = { λ r. rotation_rows (rows_of r.tables.now) };
 
     ghost invariant = { λ r. IsRotation (rotation_rows (rows_of r.tables.now))
-        × AreNexts r.tables.now.edges.items r.next.items
-        × AreNodes r.tables.now.nodes.items r.tables.now.edges.items r.node.items };
+        × AreNexts r.tables.now.edges r.next.items
+        × AreNodes r.tables.now.nodes r.tables.now.edges r.node.items };
 }
 
 impl<'a> Rotation<'a> {
@@ -98,7 +98,7 @@ impl<'a> Rotation<'a> {
         requires { dart < 2 * length self.now.edges }
         ensures { result ≡ side (map_of_rotation self.now) (signed_edge self.now.edges dart) }
     {
-        let edge = &self.tables.edges[(dart / 2) as usize];
+        let edge = self.tables.edges.row((dart / 2) as usize);
         if dart % 2 == 0 {
             edge.left_face
         } else {

@@ -7,7 +7,7 @@ ghost use Rattle.plane_model.specs.Rows.{rows_of};
 ghost use Rattle.spanning_pair.specs.Rotations.{AreComponentStarts};
 
 use crate::tour;
-use plane_model::{EdgeRow, NodeRow, Tables};
+use plane_model::{EdgeRow, EdgeTable, NodeRow, NodeTable, Tables};
 use rotation_check::{Rotation, check};
 use std::alloc::{AllocError, Global};
 use std::test::Fail;
@@ -34,13 +34,14 @@ fn path_edge(edge: IdNumber, edges: IdNumber) -> EdgeRow
     }
 }
 
-fn path_nodes(alloc: Global, nodes: u32) -> Result<Vec<NodeRow>, AllocError>
+/// The nodes of a path, by id.
+fn path_nodes(alloc: Global, nodes: u32) -> Result<NodeTable, AllocError>
     requires { nodes ≤ 1000001 }
     ensures in_range { IfOk result (λ rows. IsTrue (list_all (λ r. is_id r.id
-        && is_none_or is_face_id r.face) rows.items)) }
-    ensures len { IfOk result (λ rows. length rows.items ≡ nodes) }
+        && is_none_or is_face_id r.face) rows)) }
+    ensures len { IfOk result (λ rows. length rows ≡ nodes) }
 {
-    let mut rows = Vec::new(alloc);
+    let mut rows = NodeTable::new(alloc);
     for node in 0..nodes {
         rows.push(NodeRow {
             id: IdNumber::from(node + 1),
@@ -50,12 +51,13 @@ fn path_nodes(alloc: Global, nodes: u32) -> Result<Vec<NodeRow>, AllocError>
     Ok(rows)
 }
 
-fn path_edges(alloc: Global, edges: u32) -> Result<Vec<EdgeRow>, AllocError>
+/// The edges of a path, by id.
+fn path_edges(alloc: Global, edges: u32) -> Result<EdgeTable, AllocError>
     requires { edges ≤ 1000000 }
-    ensures in_range { IfOk result (λ rows. IsTrue (list_all is_edge_in_range rows.items)) }
-    ensures len { IfOk result (λ rows. length rows.items ≡ edges) }
+    ensures in_range { IfOk result (λ rows. IsTrue (list_all is_edge_in_range rows)) }
+    ensures len { IfOk result (λ rows. length rows ≡ edges) }
 {
-    let mut rows = Vec::new(alloc);
+    let mut rows = EdgeTable::new(alloc);
     for edge in 0..edges {
         rows.push(path_edge(IdNumber::from(edge + 1), IdNumber::from(edges)))?;
     }

@@ -7,7 +7,7 @@ ghost use Rattle.plane_model.specs.Worked.{edge, face, node, tables};
 ghost use Rattle.rotation_check.specs.Darts.{rotation_rows};
 
 use crate::{TourFault, tour};
-use plane_model::{EdgeRow, FaceRow, NodeRow, Tables};
+use plane_model::{EdgeRow, EdgeTable, FaceRow, NodeRow, NodeTable, Tables};
 use rotation_check::{Rotation, check};
 use std::alloc::{AllocError, Global};
 use std::test::Fail;
@@ -24,20 +24,24 @@ type Edge = (
     IdNumber,
 );
 
-fn node_rows(alloc: Global, ids: &[IdNumber]) -> Result<Vec<NodeRow>, AllocError>
-    ensures { IfOk result (λ rows. rows.items ≡ map node ids.now) }
+/// The table of nodes of these ids.
+fn node_rows(alloc: Global, ids: &[IdNumber]) -> Result<NodeTable, AllocError>
+    ensures { IfOk result (λ rows. rows ≡ map node ids.now) }
 {
-    ids.iter()
-        .map(|&id| NodeRow { id, face: None })
-        .collect(alloc)
+    let mut rows = NodeTable::new(alloc);
+    for &id in ids {
+        rows.push(NodeRow { id, face: None })?;
+    }
+    Ok(rows)
 }
 
-fn edge_rows(alloc: Global, edges: &[Edge]) -> Result<Vec<EdgeRow>, AllocError>
-    ensures { IfOk result (λ rows. rows.items ≡ map (λ e. edge e.0 e.1 e.2 e.3 e.4 e.5 e.6) edges.now) }
+/// The table of these edges.
+fn edge_rows(alloc: Global, edges: &[Edge]) -> Result<EdgeTable, AllocError>
+    ensures { IfOk result (λ rows. rows ≡ map (λ e. edge e.0 e.1 e.2 e.3 e.4 e.5 e.6) edges.now) }
 {
-    edges
-        .iter()
-        .map(|&(id, start, end, next_left, next_right, left_face, right_face)| EdgeRow {
+    let mut rows = EdgeTable::new(alloc);
+    for &(id, start, end, next_left, next_right, left_face, right_face) in edges {
+        rows.push(EdgeRow {
             id,
             start,
             end,
@@ -45,8 +49,9 @@ fn edge_rows(alloc: Global, edges: &[Edge]) -> Result<Vec<EdgeRow>, AllocError>
             next_right,
             left_face,
             right_face,
-        })
-        .collect(alloc)
+        })?;
+    }
+    Ok(rows)
 }
 
 fn face_rows(alloc: Global, ids: &[IdNumber]) -> Result<Vec<FaceRow>, AllocError>

@@ -14,7 +14,7 @@ ghost use Rattle.topo_cli.specs.Words.{edge_table, face_table, member_table, nod
 
 use crate::files::{FileFault, read_file};
 use map_build::{BuildFault, build};
-use plane_model::{EdgeRow, FaceRow, MemberRow, NodeRow, RegionRow, Tables};
+use plane_model::{EdgeTable, FaceRow, MemberRow, NodeTable, RegionRow, Tables};
 use ports::Shelf;
 use std::alloc::{AllocError, Global};
 use topo_base::Refusal;
@@ -126,12 +126,12 @@ fn optional_bytes<H: Shelf>(
 }
 
 /// The rows of a folder's node table.
-fn load_nodes<H: Shelf>(alloc: Global, shelf: &mut H, dir: &str) -> Result<Vec<NodeRow>, LoadFault>
+fn load_nodes<H: Shelf>(alloc: Global, shelf: &mut H, dir: &str) -> Result<NodeTable, LoadFault>
     ensures rows { IfOk result (λ rows. IfSome (H.files shelf.old)
-        (λ files. table node_rows files (node_table dir.now) ≡ Ok rows.items)) }
+        (λ files. table node_rows files (node_table dir.now) ≡ Ok rows)) }
     ensures in_range { IfOk result (λ rows. IsTrue (list_all (λ r. is_id r.id
-        && is_none_or is_face_id r.face) rows.items)) }
-    ensures few { IfOk result (λ rows. length rows.items ≤ 16_777_216) }
+        && is_none_or is_face_id r.face) rows)) }
+    ensures few { IfOk result (λ rows. length rows ≤ 16_777_216) }
     ensures ends { IfErr result (IsMetWhereTold (H.files shelf.old)
         (λ files. table node_rows files (node_table dir.now))) }
     ensures named { IfErr result (NamesOnly (node_table dir.now)) }
@@ -148,11 +148,11 @@ fn load_nodes<H: Shelf>(alloc: Global, shelf: &mut H, dir: &str) -> Result<Vec<N
 }
 
 /// The rows of a folder's edge table.
-fn load_edges<H: Shelf>(alloc: Global, shelf: &mut H, dir: &str) -> Result<Vec<EdgeRow>, LoadFault>
+fn load_edges<H: Shelf>(alloc: Global, shelf: &mut H, dir: &str) -> Result<EdgeTable, LoadFault>
     ensures rows { IfOk result (λ rows. IfSome (H.files shelf.old)
-        (λ files. table edge_rows files (edge_table dir.now) ≡ Ok rows.items)) }
-    ensures in_range { IfOk result (λ rows. IsTrue (list_all is_edge_in_range rows.items)) }
-    ensures few { IfOk result (λ rows. length rows.items ≤ 16_777_216) }
+        (λ files. table edge_rows files (edge_table dir.now) ≡ Ok rows)) }
+    ensures in_range { IfOk result (λ rows. IsTrue (list_all is_edge_in_range rows)) }
+    ensures few { IfOk result (λ rows. length rows ≤ 16_777_216) }
     ensures ends { IfErr result (IsMetWhereTold (H.files shelf.old)
         (λ files. table edge_rows files (edge_table dir.now))) }
     ensures named { IfErr result (NamesOnly (edge_table dir.now)) }

@@ -1,7 +1,7 @@
 -- The rows of lines, one by one.
 use Rattle.std.proofs.Common.{◌≡◌, ℕ, ◌+◌, List, [], ◌∷◌, ◌++◌, refl, sym, ap, append_assoc, arith, ◌≤◌, inl, inr, true, false}
-use Rattle.std.specs.Prelude.{nat_lt, Bool, Some, None, Result, Ok, Err, IfErr, IsErrAnd}
-use Rattle.std.proofs.lemmas.List.{append-nil}
+use Rattle.std.specs.Prelude.{nat_lt, Bool, Some, None, Result, Ok, Err, IfErr, IsErrAnd, OnOk, is_ok, length}
+use Rattle.std.proofs.lemmas.List.{append-nil, length-append}
 use Rattle.std.proofs.lemmas.Bool.{cases_Bool}
 use Rattle.std.proofs.lemmas.Bool.Decides.{nat_tests}
 use Rattle.topo_base.specs.declared.refusal.Refusal.TheVariants as refusal
@@ -28,6 +28,15 @@ one_more : {R : Type 0} (rows : List R) (r : R) (x : Result (List R) Refusal) �
 unfolding behind
 one_more rows r (Ok more) = ap Ok (sym (append_assoc rows (r ∷ []) more))
 one_more rows r (Err e) = refl
+
+-- what is said of a success, where there is one
+pub at_success : {X E P : Type 0} (result : Result X E) → is_ok result ≡ true → OnOk result P → P
+at_success (Ok x) good h = h
+at_success (Err e) good h = cc good
+
+-- one row more is held
+pub one_longer : {R : Type 0} (held rows : List R) (r : R) → held ≡ rows ++ (r ∷ []) → length held ≡ length rows + 1
+one_longer held rows r h = rw h (length-append rows (r ∷ []))
 
 -- a line whose row was read
 pub read_one : {R : Type 0} (t : Table) (read : Line → Result R Refusal) (header : List (List ℕ)) (n : ℕ) (left : List (List (List ℕ))) (fields : List (List ℕ)) (more : List (List (List ℕ))) (rows : List R) (r : R)

@@ -15,6 +15,7 @@ mod header;
 mod line;
 mod record;
 mod row;
+mod row_list;
 pub mod table;
 
 pub use fault::CsvFault;

@@ -12,8 +12,9 @@ use crate::header::{Header, most_rows};
 use crate::line::Line;
 use crate::record::{next_record, records};
 use crate::row::TableRow;
+use crate::row_list::RowList;
 use csv::{ByteRecord, Reader};
-use plane_model::{EdgeRow, FaceRow, MemberRow, NodeRow, RegionRow};
+use plane_model::{EdgeTable, FaceRow, MemberRow, NodeTable, RegionRow};
 use std::alloc::Global;
 use topo_base::Refusal;
 
@@ -40,19 +41,19 @@ fn read_row<R: TableRow>(line: &Line<'_>) -> Result<R, Refusal>
 }
 
 /// The rows of the lines below a header. No more are held than the table may have.
-fn read_lines<R: TableRow>(
+fn read_lines<L: RowList>(
     alloc: Global,
     header: &Header,
     reader: &mut Reader<&[u8]>,
-) -> Result<Vec<R>, CsvFault>
-    requires table { header.now.table ≡ R.of_table }
+) -> Result<L, CsvFault>
+    requires table { header.now.table ≡ L.Row.of_table }
     requires reading { IsReading reader.old }
-    ensures rows { IfOk result (λ rows. rows_from R.of_table R.read_line (fields_of header.now.names) 1
-        (left_in reader.old) ≡ Ok rows.items) }
-    ensures refused { IfErr result (λ e. IsFault e (rows_from R.of_table R.read_line (fields_of header.now.names) 1
-        (left_in reader.old))) }
+    ensures rows { IfOk result (λ rows. rows_from L.Row.of_table L.Row.read_line (fields_of header.now.names) 1
+        (left_in reader.old) ≡ Ok (L.listed rows)) }
+    ensures refused { IfErr result (λ e. IsFault e (rows_from L.Row.of_table L.Row.read_line
+        (fields_of header.now.names) 1 (left_in reader.old))) }
 {
-    let mut rows = Vec::new(alloc);
+    let mut rows = L::empty(alloc);
     let mut fields = ByteRecord::new(alloc);
     while next_record(reader, &mut fields)? {
         let line = Line {
@@ -66,28 +67,28 @@ fn read_lines<R: TableRow>(
 }
 
 /// The rows of any table.
-fn read_rows<R: TableRow>(alloc: Global, bytes: &[u8]) -> Result<Vec<R>, CsvFault>
-    ensures rows { IfOk result (λ read. rows R.of_table R.read_line bytes.now ≡ Ok read.items) }
-    ensures refused { IfErr result (λ e. IsFault e (rows R.of_table R.read_line bytes.now)) }
+fn read_rows<L: RowList>(alloc: Global, bytes: &[u8]) -> Result<L, CsvFault>
+    ensures rows { IfOk result (λ read. rows L.Row.of_table L.Row.read_line bytes.now ≡ Ok (L.listed read)) }
+    ensures refused { IfErr result (λ e. IsFault e (rows L.Row.of_table L.Row.read_line bytes.now)) }
 {
     let mut reader = records(alloc, bytes);
     let mut names = ByteRecord::new(alloc);
     next_record(&mut reader, &mut names)?;
-    let header = Header::new(R::table(), names)?;
+    let header = Header::new(L::Row::table(), names)?;
     read_lines(alloc, &header, &mut reader)
 }
 
 /// The rows of a node table, in the order of the file. `containing_face` may be NULL.
-pub fn read_nodes(alloc: Global, bytes: &[u8]) -> Result<Vec<NodeRow>, CsvFault>
-    ensures rows { IfOk result (λ rows. node_rows bytes.now ≡ Ok rows.items) }
+pub fn read_nodes(alloc: Global, bytes: &[u8]) -> Result<NodeTable, CsvFault>
+    ensures rows { IfOk result (λ rows. node_rows bytes.now ≡ Ok rows) }
     ensures refused { IfErr result (λ e. IsFault e (node_rows bytes.now)) }
 {
     read_rows(alloc, bytes)
 }
 
 /// The rows of an edge table, in the order of the file. Nothing in it may be NULL.
-pub fn read_edges(alloc: Global, bytes: &[u8]) -> Result<Vec<EdgeRow>, CsvFault>
-    ensures rows { IfOk result (λ rows. edge_rows bytes.now ≡ Ok rows.items) }
+pub fn read_edges(alloc: Global, bytes: &[u8]) -> Result<EdgeTable, CsvFault>
+    ensures rows { IfOk result (λ rows. edge_rows bytes.now ≡ Ok rows) }
     ensures refused { IfErr result (λ e. IsFault e (edge_rows bytes.now)) }
 {
     read_rows(alloc, bytes)

@@ -6,7 +6,7 @@ ghost use Rattle.topo_base.specs.SignedEdge.{is_signed_edge};
 ghost use Rattle.plane_model.specs.InRange.{is_edge_in_range, is_face_id, is_id, is_in_range, is_none_or};
 ghost use Rattle.plane_model.specs.Rows.{rows_of};
 
-use plane_model::{EdgeRow, FaceRow, MemberRow, NodeRow, RegionRow, Tables};
+use plane_model::{EdgeRow, EdgeTable, FaceRow, MemberRow, NodeRow, NodeTable, RegionRow, Tables};
 use std::test::Fail;
 use topo_base::{IdNumber, LARGEST_ID, SignedNumber};
 
@@ -31,13 +31,23 @@ fn is_signed_edge(number: SignedNumber) -> bool
     number != 0 && number.unsigned_abs() <= LARGEST_ID
 }
 
+/// Whether the ids in a row are ids.
+fn is_node_in_range(node: &NodeRow) -> bool
+    ensures { result ≡ (is_id node.now.id && is_none_or is_face_id node.now.face) }
+{
+    is_id(node.id) && node.face.is_none_or(is_face_id)
+}
+
 /// Whether the ids in rows of nodes are ids.
-fn are_nodes_in_range(nodes: &[NodeRow]) -> bool
+fn are_nodes_in_range(nodes: &NodeTable) -> bool
     ensures { result ≡ list_all (λ r. is_id r.id && is_none_or is_face_id r.face) nodes.now }
 {
-    nodes
-        .iter()
-        .all(|node| is_id(node.id) && node.face.is_none_or(is_face_id))
+    for row in 0..nodes.len() {
+        if !is_node_in_range(&nodes.row(row)) {
+            return false;
+        }
+    }
+    true
 }
 
 /// Whether the ids and next values in a row are such.
@@ -54,10 +64,15 @@ fn is_edge_in_range(edge: &EdgeRow) -> bool
 }
 
 /// Whether the ids and next values in rows of edges are such.
-fn are_edges_in_range(edges: &[EdgeRow]) -> bool
+fn are_edges_in_range(edges: &EdgeTable) -> bool
     ensures { result ≡ list_all is_edge_in_range edges.now }
 {
-    edges.iter().all(|edge| is_edge_in_range(edge))
+    for row in 0..edges.len() {
+        if !is_edge_in_range(&edges.row(row)) {
+            return false;
+        }
+    }
+    true
 }
 
 /// Whether the ids in rows of faces are ids.

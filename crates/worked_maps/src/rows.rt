@@ -1,6 +1,6 @@
 //! Tables of rows that are written short.
 
-use plane_model::{EdgeRow, FaceRow, MemberRow, NodeRow, RegionRow, Tables};
+use plane_model::{EdgeRow, EdgeTable, FaceRow, MemberRow, NodeRow, NodeTable, RegionRow, Tables};
 use std::alloc::{AllocError, Global};
 use topo_base::{IdNumber, SignedNumber};
 
@@ -28,6 +28,32 @@ pub const TRIANGLE: [Edge; 3] = [
     (3, (3, 1), (1, -2), (1, 0)),
 ];
 
+/// The table of these nodes.
+fn node_table(alloc: Global, nodes: &[Node]) -> Result<NodeTable, AllocError> {
+    let mut table = NodeTable::new(alloc);
+    for &(id, face) in nodes {
+        table.push(NodeRow { id, face })?;
+    }
+    Ok(table)
+}
+
+/// The table of these edges.
+fn edge_table(alloc: Global, edges: &[Edge]) -> Result<EdgeTable, AllocError> {
+    let mut table = EdgeTable::new(alloc);
+    for &(id, (start, end), (next_left, next_right), (left_face, right_face)) in edges {
+        table.push(EdgeRow {
+            id,
+            start,
+            end,
+            next_left,
+            next_right,
+            left_face,
+            right_face,
+        })?;
+    }
+    Ok(table)
+}
+
 /// The tables of these rows.
 pub fn tables_with_regions(
     alloc: Global,
@@ -38,22 +64,8 @@ pub fn tables_with_regions(
     members: &[Member],
 ) -> Result<Tables, AllocError> {
     Ok(Tables {
-        nodes: nodes
-            .iter()
-            .map(|&(id, face)| NodeRow { id, face })
-            .collect(alloc)?,
-        edges: edges
-            .iter()
-            .map(|&(id, (start, end), (next_left, next_right), (left_face, right_face))| EdgeRow {
-                id,
-                start,
-                end,
-                next_left,
-                next_right,
-                left_face,
-                right_face,
-            })
-            .collect(alloc)?,
+        nodes: node_table(alloc, nodes)?,
+        edges: edge_table(alloc, edges)?,
         faces: faces.iter().map(|&id| FaceRow { id }).collect(alloc)?,
         regions: regions
             .iter()

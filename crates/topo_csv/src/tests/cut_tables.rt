@@ -82,8 +82,13 @@ const RUNS: &str = "\
 fn told(alloc: Global, table: &[u8]) -> Result<String, Fail> {
     match read_edges(alloc, table) {
         Ok(rows) => {
-            let last = rows.last().map_or(0, |row| row.right_face);
-            Ok(format!(in alloc; "{} rows to {last}", rows.len())?)
+            let count = rows.len();
+            let last = if count == 0 {
+                0
+            } else {
+                rows.row(count - 1).right_face
+            };
+            Ok(format!(in alloc; "{count} rows to {last}")?)
         }
         Err(CsvFault::Refused(why)) => Ok(format!(in alloc; "{why:?}")?),
         Err(CsvFault::Memory) => Err(Fail::new("want of memory")),

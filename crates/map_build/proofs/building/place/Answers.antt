@@ -1,4 +1,4 @@
-use Rattle.std.proofs.Common.{◌+◌, ◌≡◌, ◌∷◌, ℕ, List, rules, subst, sym, ap, ◌∙◌}
+use Rattle.std.proofs.Common.{refl, ◌+◌, ◌≡◌, ◌∷◌, ℕ, List, rules, subst, sym, ap, ◌∙◌}
 use Rattle.topo_base.specs.declared.id.TheConstants.{LARGEST_ID}
 use Rattle.id_names.specs.Names.{AreDistinctIds}
 use Rattle.std.specs.Prelude.{map}
@@ -18,19 +18,19 @@ pub of_components-requires : goal.of_components-requires
 of_components-requires c = placing.sides_known (rows_of c.args.tables.now) c.requires.in_range c.requires.consistent c.args.walked.now c.requires.walk c.in_ok-face_places.face_places.faces.now c.faces.result.now (c.in_ok-face_places.ensures.faces ∙ c.requires.faces) c.faces.ensures
 
 pub component_order-requires-clause-starts : goal.component_order-requires-clause-starts
-component_order-requires-clause-starts c = placing.starts_within (rows_of c.args.tables.now) c.requires.in_range c.requires.consistent c.args.walked.now c.requires.walk c.deref.result.now c.starts.result.now c.deref.ensures.value c.starts.ensures
+component_order-requires-clause-starts c = placing.starts_within (rows_of c.args.tables.now) c.requires.in_range c.requires.consistent c.args.walked.now c.requires.walk c.args.tables.now.edges c.starts.result.now refl c.starts.ensures
 
 pub component_order-requires-clause-ids : goal.component_order-requires-clause-ids
-component_order-requires-clause-ids c = placing.small_ids (rows_of c.args.tables.now) c.requires.in_range c.requires.consistent c.args.walked.now c.requires.walk c.deref.result.now c.deref.ensures.value
+component_order-requires-clause-ids c = placing.small_ids (rows_of c.args.tables.now) c.requires.in_range c.requires.consistent c.args.walked.now c.requires.walk c.args.tables.now.edges refl
 
 pub component_order-requires-clause-few : goal.component_order-requires-clause-few
-component_order-requires-clause-few c = placing.few_places (rows_of c.args.tables.now) c.requires.in_range c.requires.consistent c.args.walked.now c.requires.walk c.in_ok-face_places.face_places.faces.now c.deref-2.result.now (c.deref-2.ensures.value ∙ c.in_ok-places.ensures ∙ ap (map (place_of c.in_ok-face_places.face_places.faces.now)) c.faces.ensures)
+component_order-requires-clause-few c = placing.few_places (rows_of c.args.tables.now) c.requires.in_range c.requires.consistent c.args.walked.now c.requires.walk c.in_ok-face_places.face_places.faces.now c.deref.result.now (c.deref.ensures.value ∙ c.in_ok-places.ensures ∙ ap (map (place_of c.in_ok-face_places.face_places.faces.now)) c.faces.ensures)
 
 pub component_order-requires-clause-apart : goal.component_order-requires-clause-apart
-component_order-requires-clause-apart c = placing.starts_apart (rows_of c.args.tables.now) c.requires.in_range c.requires.consistent c.args.walked.now c.requires.walk c.deref.result.now c.starts.result.now c.deref.ensures.value c.starts.ensures
+component_order-requires-clause-apart c = placing.starts_apart (rows_of c.args.tables.now) c.requires.in_range c.requires.consistent c.args.walked.now c.requires.walk c.args.tables.now.edges c.starts.result.now refl c.starts.ensures
 
 pub isolated_nodes-requires-clause-known : goal.isolated_nodes-requires-clause-known
-isolated_nodes-requires-clause-known c = placing.nodes_known (rows_of c.args.tables.now) c.requires.in_range c.requires.consistent c.args.walked.now c.requires.walk c.in_ok-face_places.face_places.faces.now c.deref-3.result.now (c.in_ok-face_places.ensures.faces ∙ c.requires.faces) c.deref-3.ensures.value
+isolated_nodes-requires-clause-known c = placing.nodes_known (rows_of c.args.tables.now) c.requires.in_range c.requires.consistent c.args.walked.now c.requires.walk c.in_ok-face_places.face_places.faces.now c.args.tables.now.nodes (c.in_ok-face_places.ensures.faces ∙ c.requires.faces) refl
 
 pub member_regions-requires-clause-known : goal.member_regions-requires-clause-known
 member_regions-requires-clause-known c = placing.members_known (rows_of c.args.tables.now) c.requires.in_range c.requires.consistent c.args.walked.now c.requires.walk c.in_ok-face_places.face_places.faces.now c.args.members.now (c.in_ok-face_places.ensures.faces ∙ c.requires.faces) c.requires.members

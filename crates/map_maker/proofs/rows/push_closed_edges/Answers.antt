@@ -6,4 +6,4 @@ use Rattle.map_maker.proofs.rows.push_closed_edges.Goals as goal
 
 pub loop-q-preserved : goal.loop-q-preserved
 loop-q-preserved c =
-    one_more (closed_edge c.args.n) 1 c.loop-q.q _ _ _ c.loop-q.invariant (c.in_ok-push.ensures.items ∙ ap (λ (r : EdgeRow). c.loop-q.edges.items ++ r ∷ []) c.closed_edge.ensures)
+    one_more (closed_edge c.args.n) 1 c.loop-q.q _ _ _ c.loop-q.invariant (c.in_ok-push.ensures ∙ ap (λ (r : EdgeRow). c.loop-q.edges ++ r ∷ []) c.closed_edge.ensures)

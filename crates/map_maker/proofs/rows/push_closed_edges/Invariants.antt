@@ -6,4 +6,4 @@ use Rattle.map_maker.proofs.rows.push_closed_edges.Given as goal
 
 -- the rows so far
 abbrev pub invariant-loop-q : goal.invariant-loop-q
-invariant-loop-q l = l.edges.items ≡ l.initial.edges.items ++ map (closed_edge l.n) (range_with_len 1 l.q)
+invariant-loop-q l = l.edges ≡ l.initial.edges ++ map (closed_edge l.n) (range_with_len 1 l.q)

@@ -6,4 +6,4 @@ use Rattle.map_maker.proofs.rows.push_closed_nodes.Goals as goal
 pub loop-q-preserved : goal.loop-q-preserved
 loop-q-preserved c =
     one_more (closed_node c.args.n) 1 c.loop-q.q _ _ _ c.loop-q.invariant
-    (c.in_ok-push.ensures.items ∙ ap (λ id. c.loop-q.nodes.items ++ (record { id = id; face = None }) ∷ []) c.from.ensures)
+    (c.in_ok-push.ensures ∙ ap (λ id. c.loop-q.nodes ++ (record { id = id; face = None }) ∷ []) c.from.ensures)

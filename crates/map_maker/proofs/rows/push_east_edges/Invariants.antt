@@ -6,4 +6,4 @@ use Rattle.map_maker.proofs.rows.push_east_edges.Given as goal
 
 -- the rows so far
 abbrev pub invariant-loop-i : goal.invariant-loop-i
-invariant-loop-i l = l.edges.items ≡ l.initial.edges.items ++ map (east_edge l.n) (map (place_of l.n) (range_with_len 0 l.i))
+invariant-loop-i l = l.edges ≡ l.initial.edges ++ map (east_edge l.n) (map (place_of l.n) (range_with_len 0 l.i))

@@ -6,4 +6,4 @@ use Rattle.map_maker.proofs.rows.push_grid_nodes.Given as goal
 
 -- the rows so far
 abbrev pub invariant-loop-i : goal.invariant-loop-i
-invariant-loop-i l = l.nodes.items ≡ l.initial.nodes.items ++ map (grid_node l.n) (map (place_of (l.n + 1)) (range_with_len 0 l.i))
+invariant-loop-i l = l.nodes ≡ l.initial.nodes ++ map (grid_node l.n) (map (place_of (l.n + 1)) (range_with_len 0 l.i))

@@ -6,4 +6,4 @@ use Rattle.map_maker.proofs.rows.push_isolated_nodes.Given as goal
 
 -- the rows so far
 abbrev pub invariant-loop-q : goal.invariant-loop-q
-invariant-loop-q l = l.nodes.items ≡ l.initial.nodes.items ++ map (isolated_node l.n) (range_with_len 1 l.q)
+invariant-loop-q l = l.nodes ≡ l.initial.nodes ++ map (isolated_node l.n) (range_with_len 1 l.q)

@@ -7,4 +7,4 @@ use Rattle.map_maker.proofs.rows.push_north_edges.Goals as goal
 pub loop-i-preserved : goal.loop-i-preserved
 loop-i-preserved c =
     one_place_more (north_edge c.args.n) (place_of (c.args.n + 1)) c.loop-i.i _ _ _ c.loop-i.invariant
-    (c.in_ok-push.ensures.items ∙ ap (λ (r : EdgeRow). c.loop-i.edges.items ++ r ∷ []) (c.north_edge.ensures ∙ ap (north_edge c.args.n) c.numbered-place.ensures))
+    (c.in_ok-push.ensures ∙ ap (λ (r : EdgeRow). c.loop-i.edges ++ r ∷ []) (c.north_edge.ensures ∙ ap (north_edge c.args.n) c.numbered-place.ensures))

@@ -4,4 +4,4 @@ use Rattle.plane_model.specs.InRange.{is_edge_in_range}
 use Rattle.spanning_pair.proofs.path_tests.path_edges.Given as goal
 
 abbrev pub invariant-loop-edge : goal.invariant-loop-edge
-invariant-loop-edge l = (list_all is_edge_in_range l.rows.items ≡ true) × (length l.rows.items ≡ l.edge)
+invariant-loop-edge l = (list_all is_edge_in_range l.rows ≡ true) × (length l.rows ≡ l.edge)

@@ -30,7 +30,7 @@ returns-clause-rows g c =
     rows_at node_rows _ _ _ _ _ _ c.in_ok-name.ensures.ok c.deref.ensures.value c.in_ok-bytes.ensures.whole c.in_ok-bytes.ensures.short c.in_ok-read_nodes.ensures.rows
 
 pub returns-clause-in_range : goal.returns-clause-in_range
-returns-clause-in_range g c = (rows-read kind.Node node_row (λ r. is_id r.id && is_none_or is_face_id r.face) node_row-in_range c.deref.result.now c.in_ok-read_nodes.field-0.items c.in_ok-read_nodes.ensures.rows).0
+returns-clause-in_range g c = (rows-read kind.Node node_row (λ r. is_id r.id && is_none_or is_face_id r.face) node_row-in_range c.deref.result.now c.in_ok-read_nodes.field-0 c.in_ok-read_nodes.ensures.rows).0
 
 pub returns-clause-few : goal.returns-clause-few
-returns-clause-few g c = (rows-read kind.Node node_row (λ r. is_id r.id && is_none_or is_face_id r.face) node_row-in_range c.deref.result.now c.in_ok-read_nodes.field-0.items c.in_ok-read_nodes.ensures.rows).1
+returns-clause-few g c = (rows-read kind.Node node_row (λ r. is_id r.id && is_none_or is_face_id r.face) node_row-in_range c.deref.result.now c.in_ok-read_nodes.field-0 c.in_ok-read_nodes.ensures.rows).1

@@ -24,7 +24,7 @@ pub returns-in_err-faces-clause-ends : goal.returns-in_err-faces-clause-ends
 returns-in_err-faces-clause-ends g c =
     let P : LoadFault → Type 0 = IsMetWhereTold (g.H.Shelf.files c.args.shelf.now) (λ files. loaded files c.args.dir.now) in
     let Q : Option Files → Type 0 = λ o. IsMetWhereTold o (λ files. table face_rows files (face_table c.args.dir.now)) c.in_err-faces.field-0.0 in
-    let R : Option Files → Type 0 = λ o. IfSome o (λ files. table edge_rows files (edge_table c.args.dir.now) ≡ Ok c.in_ok-edges.edges.items) in
+    let R : Option Files → Type 0 = λ o. IfSome o (λ files. table edge_rows files (edge_table c.args.dir.now) ≡ Ok c.in_ok-edges.edges) in
     let kept = c.in_ok-edges.ensures.kept ∙ c.in_ok-nodes.ensures.kept in
     err_and _ _ P c.from_residual-in_err-faces.ensures.1
     (λ e same. subst P (sym same)
@@ -34,7 +34,7 @@ pub returns-in_err-regions-clause-ends : goal.returns-in_err-regions-clause-ends
 returns-in_err-regions-clause-ends g c =
     let P : LoadFault → Type 0 = IsMetWhereTold (g.H.Shelf.files c.args.shelf.now) (λ files. loaded files c.args.dir.now) in
     let Q : Option Files → Type 0 = λ o. IsMetWhereTold o (λ files. optional_table region_rows files (region_table c.args.dir.now)) c.in_err-regions.field-0.0 in
-    let R : Option Files → Type 0 = λ o. IfSome o (λ files. table edge_rows files (edge_table c.args.dir.now) ≡ Ok c.in_ok-edges.edges.items) in
+    let R : Option Files → Type 0 = λ o. IfSome o (λ files. table edge_rows files (edge_table c.args.dir.now) ≡ Ok c.in_ok-edges.edges) in
     let S : Option Files → Type 0 = λ o. IfSome o (λ files. table face_rows files (face_table c.args.dir.now) ≡ Ok c.in_ok-faces.faces.items) in
     let nodes = c.in_ok-nodes.ensures.kept in
     let edges = c.in_ok-edges.ensures.kept ∙ nodes in
@@ -47,7 +47,7 @@ pub returns-in_err-members-clause-ends : goal.returns-in_err-members-clause-ends
 returns-in_err-members-clause-ends g c =
     let P : LoadFault → Type 0 = IsMetWhereTold (g.H.Shelf.files c.args.shelf.now) (λ files. loaded files c.args.dir.now) in
     let Q : Option Files → Type 0 = λ o. IsMetWhereTold o (λ files. optional_table member_rows files (member_table c.args.dir.now)) c.in_err-members.field-0.0 in
-    let R : Option Files → Type 0 = λ o. IfSome o (λ files. table edge_rows files (edge_table c.args.dir.now) ≡ Ok c.in_ok-edges.edges.items) in
+    let R : Option Files → Type 0 = λ o. IfSome o (λ files. table edge_rows files (edge_table c.args.dir.now) ≡ Ok c.in_ok-edges.edges) in
     let S : Option Files → Type 0 = λ o. IfSome o (λ files. table face_rows files (face_table c.args.dir.now) ≡ Ok c.in_ok-faces.faces.items) in
     let T : Option Files → Type 0 = λ o. IfSome o (λ files. optional_table region_rows files (region_table c.args.dir.now) ≡ Ok c.in_ok-regions.regions.items) in
     let nodes = c.in_ok-nodes.ensures.kept in
@@ -61,7 +61,7 @@ returns-in_err-members-clause-ends g c =
 
 pub returns-clause-loaded : goal.returns-clause-loaded
 returns-clause-loaded g c =
-    let R : Option Files → Type 0 = λ o. IfSome o (λ files. table edge_rows files (edge_table c.args.dir.now) ≡ Ok c.in_ok-edges.edges.items) in
+    let R : Option Files → Type 0 = λ o. IfSome o (λ files. table edge_rows files (edge_table c.args.dir.now) ≡ Ok c.in_ok-edges.edges) in
     let S : Option Files → Type 0 = λ o. IfSome o (λ files. table face_rows files (face_table c.args.dir.now) ≡ Ok c.in_ok-faces.faces.items) in
     let T : Option Files → Type 0 = λ o. IfSome o (λ files. optional_table region_rows files (region_table c.args.dir.now) ≡ Ok c.in_ok-regions.regions.items) in
     let U : Option Files → Type 0 = λ o. IfSome o (λ files. optional_table member_rows files (member_table c.args.dir.now) ≡ Ok c.in_ok-members.members.items) in

@@ -5,4 +5,4 @@ pub returns-in_err-header-clause-refused : goal.returns-in_err-header-clause-ref
 returns-in_err-header-clause-refused g c =
     let gives = rw c.records-reader.ensures.left at c.in_ok-next_record.ensures.gives in
     let refused = rw c.table.ensures at c.in_err-header.ensures.refused in
-    passed_on _ _ _ c.from_residual-in_err-header.ensures.1 (rows_refused g.R.TableRow.of_table g.R.TableRow.read_line _ _ _ _ _ gives refused)
+    passed_on _ _ _ c.from_residual-in_err-header.ensures.1 (rows_refused g.L.Row.TableRow.of_table g.L.Row.TableRow.read_line _ _ _ _ _ gives refused)

@@ -7,12 +7,12 @@ use Rattle.rotation_check.proofs.FirstIn.{first_in-darts, first_in-further, firs
 use Rattle.rotation_check.proofs.darts.Darts.first_wrong_end.Goals as goal
 
 pub loop-dart-init : goal.loop-dart-init
-loop-dart-init c = sym (first_in-darts (wrong_end (map_of (rows_of c.args.self.now.tables.now))) c.args.self.now.tables.now.edges.items)
+loop-dart-init c = sym (first_in-darts (wrong_end (map_of (rows_of c.args.self.now.tables.now))) c.args.self.now.tables.now.edges)
 
 pub loop-dart-preserved : goal.loop-dart-preserved
 loop-dart-preserved c =
     let m = map_of (rows_of c.args.self.now.tables.now) in
-    let edges = c.args.self.now.tables.now.edges.items in
+    let edges = c.args.self.now.tables.now.edges in
     let k = c.loop-dart.dart in
     let lt : k < 2 * length edges = omega (arith, c.count-dart-end.ensures) in
     let size = length-dart_edges edges in
@@ -22,7 +22,7 @@ loop-dart-preserved c =
 pub returns-then-is_some : goal.returns-then-is_some
 returns-then-is_some c =
     let m = map_of (rows_of c.args.self.now.tables.now) in
-    let edges = c.args.self.now.tables.now.edges.items in
+    let edges = c.args.self.now.tables.now.edges in
     let k = c.loop-dart.dart in
     let lt : k < 2 * length edges = omega (arith, c.count-dart-end.ensures) in
     let size = length-dart_edges edges in
@@ -31,6 +31,6 @@ returns-then-is_some c =
 
 pub returns : goal.returns
 returns c =
-    let edges = c.args.self.now.tables.now.edges.items in
+    let edges = c.args.self.now.tables.now.edges in
     let size = length-dart_edges edges in
     sym (first_in-end (wrong_end (map_of (rows_of c.args.self.now.tables.now))) (dart_edges edges) c.loop-dart.dart (omega (arith, c.count-dart-end.ensures))) ∙ c.loop-dart.invariant

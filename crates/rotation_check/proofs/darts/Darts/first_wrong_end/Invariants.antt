@@ -7,4 +7,4 @@ use Rattle.rotation_check.proofs.darts.Darts.first_wrong_end.Given as goal
 -- the first fault of the darts that are left is the first of all
 abbrev pub invariant-loop-dart : goal.invariant-loop-dart
 invariant-loop-dart l =
-    first_in (wrong_end (map_of_darts l.self)) (drop l.dart (dart_edges l.self.tables.now.edges.items)) ≡ first_in (either_way (wrong_end (map_of_darts l.self))) l.self.tables.now.edges.items
+    first_in (wrong_end (map_of_darts l.self)) (drop l.dart (dart_edges l.self.tables.now.edges)) ≡ first_in (either_way (wrong_end (map_of_darts l.self))) l.self.tables.now.edges

@@ -8,4 +8,4 @@ abbrev pub invariant-loop-at : goal.invariant-loop-at
 invariant-loop-at l = RoundSoFar (rows_of l.self.tables.now) l.dart l.at l.length
 
 abbrev pub decreases-loop-at : goal.decreases-loop-at
-decreases-loop-at l = 2 * length l.self.tables.now.edges.items - l.length
+decreases-loop-at l = 2 * length l.self.tables.now.edges - l.length

@@ -14,31 +14,31 @@ returns-in_err-row c =
 
 pub overflow_mul-result : goal.overflow_mul-result
 overflow_mul-result c =
-    let row = row_at c.args.self.now.tables.now.edges.items c.args.self.now.rows c.args.number c.edge_id.result c.in_ok-row.row c.requires.index (c.edge_id.ensures ∙ ap edge_of (kept c.args.number c.requires.signed)) (sym c.row_of.ensures ∙ c.in_ok-row.was) in
+    let row = row_at c.args.self.now.tables.now.edges c.args.self.now.rows c.args.number c.edge_id.result c.in_ok-row.row c.requires.index (c.edge_id.ensures ∙ ap edge_of (kept c.args.number c.requires.signed)) (sym c.row_of.ensures ∙ c.in_ok-row.was) in
     let few = c.requires.few in
-    let within = row_within c.args.self.now.tables.now.edges.items c.in_ok-row.row _ row in
+    let within = row_within c.args.self.now.tables.now.edges c.in_ok-row.row _ row in
     omega arith
 
 pub overflow_mul-result-else-is_forward : goal.overflow_mul-result-else-is_forward
 overflow_mul-result-else-is_forward c =
-    let row = row_at c.args.self.now.tables.now.edges.items c.args.self.now.rows c.args.number c.edge_id.result c.in_ok-row.row c.requires.index (c.edge_id.ensures ∙ ap edge_of (kept c.args.number c.requires.signed)) (sym c.row_of.ensures ∙ c.in_ok-row.was) in
+    let row = row_at c.args.self.now.tables.now.edges c.args.self.now.rows c.args.number c.edge_id.result c.in_ok-row.row c.requires.index (c.edge_id.ensures ∙ ap edge_of (kept c.args.number c.requires.signed)) (sym c.row_of.ensures ∙ c.in_ok-row.was) in
     let few = c.requires.few in
-    let within = row_within c.args.self.now.tables.now.edges.items c.in_ok-row.row _ row in
+    let within = row_within c.args.self.now.tables.now.edges c.in_ok-row.row _ row in
     omega arith
 
 pub overflow_add-result : goal.overflow_add-result
 overflow_add-result c =
-    let row = row_at c.args.self.now.tables.now.edges.items c.args.self.now.rows c.args.number c.edge_id.result c.in_ok-row.row c.requires.index (c.edge_id.ensures ∙ ap edge_of (kept c.args.number c.requires.signed)) (sym c.row_of.ensures ∙ c.in_ok-row.was) in
+    let row = row_at c.args.self.now.tables.now.edges c.args.self.now.rows c.args.number c.edge_id.result c.in_ok-row.row c.requires.index (c.edge_id.ensures ∙ ap edge_of (kept c.args.number c.requires.signed)) (sym c.row_of.ensures ∙ c.in_ok-row.was) in
     let few = c.requires.few in
-    let within = row_within c.args.self.now.tables.now.edges.items c.in_ok-row.row _ row in
+    let within = row_within c.args.self.now.tables.now.edges c.in_ok-row.row _ row in
     omega arith
 
 pub returns-then-is_forward : goal.returns-then-is_forward
 returns-then-is_forward c =
-    let row = row_at c.args.self.now.tables.now.edges.items c.args.self.now.rows c.args.number c.edge_id.result c.in_ok-row.row c.requires.index (c.edge_id.ensures ∙ ap edge_of (kept c.args.number c.requires.signed)) (sym c.row_of.ensures ∙ c.in_ok-row.was) in
-    dart_forward c.args.self.now.tables.now.edges.items c.in_ok-row.row c.args.number row (ap is_forward (sym (kept c.args.number c.requires.signed)) ∙ sym c.is_forward.ensures ∙ c.if-is_forward.true)
+    let row = row_at c.args.self.now.tables.now.edges c.args.self.now.rows c.args.number c.edge_id.result c.in_ok-row.row c.requires.index (c.edge_id.ensures ∙ ap edge_of (kept c.args.number c.requires.signed)) (sym c.row_of.ensures ∙ c.in_ok-row.was) in
+    dart_forward c.args.self.now.tables.now.edges c.in_ok-row.row c.args.number row (ap is_forward (sym (kept c.args.number c.requires.signed)) ∙ sym c.is_forward.ensures ∙ c.if-is_forward.true)
 
 pub returns-else-is_forward : goal.returns-else-is_forward
 returns-else-is_forward c =
-    let row = row_at c.args.self.now.tables.now.edges.items c.args.self.now.rows c.args.number c.edge_id.result c.in_ok-row.row c.requires.index (c.edge_id.ensures ∙ ap edge_of (kept c.args.number c.requires.signed)) (sym c.row_of.ensures ∙ c.in_ok-row.was) in
-    dart_backward c.args.self.now.tables.now.edges.items c.in_ok-row.row c.args.number row (ap is_forward (sym (kept c.args.number c.requires.signed)) ∙ sym c.is_forward.ensures ∙ c.if-is_forward.false)
+    let row = row_at c.args.self.now.tables.now.edges c.args.self.now.rows c.args.number c.edge_id.result c.in_ok-row.row c.requires.index (c.edge_id.ensures ∙ ap edge_of (kept c.args.number c.requires.signed)) (sym c.row_of.ensures ∙ c.in_ok-row.was) in
+    dart_backward c.args.self.now.tables.now.edges c.in_ok-row.row c.args.number row (ap is_forward (sym (kept c.args.number c.requires.signed)) ∙ sym c.is_forward.ensures ∙ c.if-is_forward.false)

@@ -3,5 +3,5 @@ use Rattle.rotation_check.proofs.Numbering.{NextsTo}
 use Rattle.rotation_check.proofs.missing_edges.EdgeIndex.nexts_of_darts.Given as goal
 
 -- the darts of the rows so far have their nexts
-abbrev pub invariant-loop-edge : goal.invariant-loop-edge
-invariant-loop-edge l = NextsTo (rows_of l.self.tables.now) l.edge-index l.nexts.items
+abbrev pub invariant-loop-row : goal.invariant-loop-row
+invariant-loop-row l = NextsTo (rows_of l.self.tables.now) l.row l.nexts.items

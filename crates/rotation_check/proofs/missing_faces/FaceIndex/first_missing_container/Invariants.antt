@@ -5,5 +5,5 @@ use Rattle.plane_model.specs.Faults.{first_in, no_containing_face}
 use Rattle.rotation_check.proofs.missing_faces.FaceIndex.first_missing_container.Given as goal
 
 -- the first fault of the rows that are left is the first of all
-abbrev pub invariant-loop-node : goal.invariant-loop-node
-invariant-loop-node l = first_in (no_containing_face (map_of (rows_of l.self.tables.now))) (drop l.node-index l.self.tables.now.nodes.items) ≡ first_in (no_containing_face (map_of (rows_of l.self.tables.now))) l.self.tables.now.nodes.items
+abbrev pub invariant-loop-row : goal.invariant-loop-row
+invariant-loop-row l = first_in (no_containing_face (map_of (rows_of l.self.tables.now))) (drop l.row l.self.tables.now.nodes) ≡ first_in (no_containing_face (map_of (rows_of l.self.tables.now))) l.self.tables.now.nodes

@@ -3,5 +3,5 @@ use Rattle.rotation_check.proofs.Numbering.{NodesTo}
 use Rattle.rotation_check.proofs.missing_nodes.NodeIndex.nodes_of_darts.Given as goal
 
 -- the darts of the rows so far have their nodes
-abbrev pub invariant-loop-edge : goal.invariant-loop-edge
-invariant-loop-edge l = NodesTo (rows_of l.self.tables.now) l.edge-index l.nodes.items
+abbrev pub invariant-loop-row : goal.invariant-loop-row
+invariant-loop-row l = NodesTo (rows_of l.self.tables.now) l.row l.nodes.items

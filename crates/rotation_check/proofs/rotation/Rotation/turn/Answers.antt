@@ -8,7 +8,7 @@ use Rattle.rotation_check.proofs.rotation.Rotation.turn.Goals as goal
 pub returns-clause-turn : goal.returns-clause-turn
 returns-clause-turn c =
     let P : RotationRows → Type 0 = λ r. signed_edge r.edges c.index.result.now ≡ turn (map_of_rotation r) (signed_edge r.edges c.args.dart) in
-    let edges = c.self.inside.tables.now.edges.items in
+    let edges = c.self.inside.tables.now.edges in
     let within : c.args.dart < 2 * length edges = rw (ap (λ r. length r.edges) c.self.view_is) c.requires in
     let inside = reverse-within edges c.args.dart within in
     let size = c.self.invariant.1.0 in
