@@ -3,7 +3,7 @@
 ghost use Rattle.std.specs.Prelude.{◌≡◌, ◌<◌, ◌≤◌, length};
 ghost use Rattle.min_max_tree.specs.MinMaxView.{searched};
 
-use crate::{MinMaxView, check, make, node_count};
+use crate::{MinMaxView, Scan, check, make, node_count};
 use bit_words::{BitMaker, BitView, Steps, WordView, WrongEntry};
 use image_words::bytes_of;
 use std::alloc::Global;
@@ -111,6 +111,27 @@ fn plain_least(excesses: &[i64], from: usize, to: usize) -> i64
     least
 }
 
+/// Whether the search back from place `i` finds the place where that is in the word, and else comes to the one before.
+fn word_agrees<C: Ledger>(
+    tree: MinMaxView<'_>,
+    i: usize,
+    drop: u64,
+    excesses: &[i64],
+    steps: &mut Steps<C>,
+) -> bool
+    requires after { 1 ≤ i }
+    requires place { i ≤ length (searched tree) }
+    requires excesses { i < length excesses.now }
+    requires some { 1 ≤ drop }
+    requires few { drop ≤ 900 }
+{
+    let want = plain_backward(excesses, i, drop);
+    match tree.back_in_word(i, drop, steps) {
+        Scan::Found(place) => want == Some(place),
+        Scan::Above(need) => want == plain_backward(excesses, 64 * ((i - 1) / 64), need),
+    }
+}
+
 /// Whether the falls from place `i` and back are what plain counting gives.
 fn falls_agree<C: Ledger>(
     tree: MinMaxView<'_>,
@@ -127,6 +148,9 @@ fn falls_agree<C: Ledger>(
             return false;
         }
         if tree.backward(i, drop, steps) != plain_backward(excesses, i, drop) {
+            return false;
+        }
+        if i > 0 && !word_agrees(tree, i, drop, excesses, steps) {
             return false;
         }
     }

@@ -7,7 +7,7 @@ ghost use Rattle.min_max_tree.specs.Tree.{nodes_of};
 
 use crate::level::Level;
 use crate::node::Node;
-use crate::scan::{Scan, ones_between, run_of_bits, scan_bits, scan_bits_back};
+use crate::scan::{Scan, ones_between, run_of_bits, scan_bits, scan_bits_back, scan_word_back};
 use bit_words::{BitView, Steps, WordView};
 use std::sync::ledger::Ledger;
 
@@ -43,7 +43,7 @@ impl<'a> MinMaxView<'a> {
     ghost use Rattle.min_max_tree.specs.Node.{IsRun};
     ghost use Rattle.min_max_tree.specs.Level.{IsLevel, IsSpot, LeadsTo, Passes, Sibling};
     ghost use Rattle.min_max_tree.specs.Search.{Reaches, StaysAbove};
-    ghost use Rattle.min_max_tree.specs.SearchBack.{IsSpotBack, LeadsBack, PassesBack, SiblingBack, Leaves, WasAbove};
+    ghost use Rattle.min_max_tree.specs.SearchBack.{IsSpotBack, LeadsBack, PassesBack, SiblingBack, Leaves, ScannedBack, WasAbove};
     ghost use Rattle.bit_words.specs.Bits.{excess, IsNext, IsLast};
     ghost use Rattle.bit_words.specs.Digits.{digits};
     ghost use Rattle.min_max_tree.specs.MinMaxView.{searched};
@@ -200,7 +200,7 @@ impl<'a> MinMaxView<'a> {
         ensures next { IsNext (λ p. excess (searched self.now) p ≡ excess (searched self.now) i -ℤ pos drop) i
             (length (searched self.now)) result }
         ensures grows { steps.old ≤ steps.new }
-        ensures cost { steps.new ≤ steps.old + 4 * digits (length (searched self.now) + 2) + 40 }
+        ensures cost { steps.new ≤ steps.old + 2 * digits (length (searched self.now) + 2) + 16 }
     {
         let len = self.bits.len();
         if i == len {
@@ -432,7 +432,7 @@ impl<'a> MinMaxView<'a> {
         ensures last { IsLast (λ p. excess (searched self.now) p ≡ excess (searched self.now) i
             -ℤ pos drop) 0 i result }
         ensures grows { steps.old ≤ steps.new }
-        ensures cost { steps.new ≤ steps.old + 4 * digits (length (searched self.now) + 2) + 40 }
+        ensures cost { steps.new ≤ steps.old + 2 * digits (length (searched self.now) + 2) + 16 }
     {
         if i == 0 {
             return None;
@@ -445,6 +445,20 @@ impl<'a> MinMaxView<'a> {
             Scan::Found(place) => Some(place),
             Scan::Above(need) => self.earlier(block, need, steps),
         }
+    }
+
+    /// Looks back from place `i` to where its word begins, by one step: the last place there where the excess is `drop`
+    /// below that at `i`, or how far the excess at the word's beginning is above that.
+    #[inline]
+    pub fn back_in_word<C: Ledger>(&self, i: usize, drop: u64, steps: &mut Steps<C>) -> Scan
+        requires after { 1 ≤ i }
+        requires within { i ≤ length (searched self.now) }
+        requires some { 1 ≤ drop }
+        requires small { drop ≤ 4294967296 }
+        ensures scanned { ScannedBack (searched self.now) drop (64 * ((i - 1) / 64)) i result }
+        ensures one_step { steps.new ≡ steps.old + 1 }
+    {
+        scan_word_back(&self.bits, 64 * ((i - 1) / 64), i, drop, steps)
     }
 
     /// Adds what a left sibling of node `j` sums to, where there is one.

@@ -1,11 +1,11 @@
 -- The innermost pair round a gap, before and after a pair and inside it.
 use Rattle.std.specs.Cmp.{both_ways as tests_agree}
 use Rattle.std.specs.Prelude.{pos, ◌+ℤ◌, ◌-ℤ◌, ◌<ℤ◌, ◌≤ℤ◌, find, IsNone, IfSome, ◌↔◌}
-use Rattle.std.proofs.Common.{◌≡◌, ◌≢◌, ℕ, suc, ◌+◌, ◌-◌, ◌<◌, ◌≤◌, inl, inr, Bool, true, false, List, length, refl, ap, sym, ◌∙◌, arith, subst, Option, Some, None}
+use Rattle.std.proofs.Common.{◌≡◌, ◌≢◌, ℕ, suc, ◌+◌, ◌-◌, ◌*◌, ◌<◌, ◌≤◌, inl, inr, Bool, true, false, List, length, refl, ap, sym, ◌∙◌, arith, subst, Option, Some, None}
 use Rattle.std.proofs.lemmas.Bool.{cases_lt, and_parts, and_from, leb-true, le-leb, false_from_ne_true}
 use Rattle.std.proofs.lemmas.Int.{ints}
-use Rattle.bit_words.specs.Bits.{excess, IsLast}
-use Rattle.min_max_tree.proofs.Falls.{excess-step}
+use Rattle.bit_words.specs.Bits.{rank, excess, IsLast}
+use Rattle.min_max_tree.proofs.Falls.{excess-ranks, excess-step}
 use Rattle.parens.proofs.Balances.{IsBalanced}
 use Rattle.parens.specs.Matching.{is_open, close_of, is_from, is_enclosing, falling, innermost, mate_of}
 use Rattle.parens.specs.Pairs.{IsInnermost}
@@ -176,3 +176,11 @@ module _ (bits : List Bool) (gap : ℕ) (b : IsBalanced bits) (within : gap ≤ 
   pub last-is_innermost : (o : Option ℕ) → IsLast (λ p. excess bits p ≡ excess bits gap -ℤ pos 1) 0 gap o → IfSome o (IsInnermost bits gap)
   last-is_innermost None h = tt
   last-is_innermost (Some p) h = is_innermost p h.1 h.2 h.3
+
+-- no excess is below 0, which a count tells
+pub counted-none : (bits : List Bool) (i drop opens : ℕ) → IsBalanced bits → i ≤ length bits → opens ≡ rank true bits i → 2 * opens < i + drop
+    → IsLast (λ p. excess bits p ≡ excess bits i -ℤ pos drop) 0 i None
+counted-none bits i drop opens b within is few p l h e =
+    let low = b.low p (omega (arith, within, h)) in
+    let at = excess-ranks bits i within in
+    omega (arith, ints, low, at, e, is, few)

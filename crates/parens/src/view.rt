@@ -6,7 +6,7 @@ ghost use Rattle.min_max_tree.specs.MinMaxView.{searched};
 ghost use Rattle.parens.specs.Matching.{is_balanced};
 
 use bit_words::Steps;
-use min_max_tree::MinMaxView;
+use min_max_tree::{MinMaxView, Scan};
 use rank_select::RankView;
 use std::sync::ledger::Ledger;
 
@@ -24,7 +24,7 @@ impl<'a> ParenView<'a> {
     ghost use Rattle.std.specs.Prelude.{ℕ, ◌≡◌, ◌<◌, ◌≤◌, ◌+◌, ◌-◌, ◌*◌, ◌↔◌, ◌-ℤ◌, length, min, max, true, false, pos, Some, IsTrue, IsNone, IfSome};
     ghost use Rattle.rank_select.specs.RankView.{counted};
     ghost use Rattle.min_max_tree.specs.MinMaxView.{searched};
-    ghost use Rattle.bit_words.specs.Bits.{rank, excess, IsSelected};
+    ghost use Rattle.bit_words.specs.Bits.{rank, excess, IsLast, IsSelected};
     ghost use Rattle.bit_words.specs.Digits.{digits};
     ghost use Rattle.min_max_tree.specs.Tree.{least};
     ghost use Rattle.parens.specs.Matching.{is_balanced, is_open, mate_of, innermost, common_of};
@@ -59,7 +59,7 @@ impl<'a> ParenView<'a> {
         ensures forward { IsTrue (is_open (parens_of self.now) i) ↔ (i < result) }
         ensures pair { IsPair (parens_of self.now) (min i result) (max i result) }
         ensures some_steps { steps.old + 1 ≤ steps.new }
-        ensures cost { steps.new ≤ steps.old + 4 * digits (length (parens_of self.now) + 2) + 41 }
+        ensures cost { steps.new ≤ steps.old + 2 * digits (length (parens_of self.now) + 2) + 17 }
     {
         if self.is_open(i, steps) {
             self.close(i, steps)
@@ -73,7 +73,7 @@ impl<'a> ParenView<'a> {
         requires { is_open (parens_of self.now) i ≡ true }
         ensures pair { IsPair (parens_of self.now) i result }
         ensures grows { steps.old ≤ steps.new }
-        ensures cost { steps.new ≤ steps.old + 4 * digits (length (parens_of self.now) + 2) + 40 }
+        ensures cost { steps.new ≤ steps.old + 2 * digits (length (parens_of self.now) + 2) + 16 }
     {
         match self.tree.forward(i + 1, 1, steps) {
             Some(end) => end - 1,
@@ -87,7 +87,7 @@ impl<'a> ParenView<'a> {
         requires closes { is_open (parens_of self.now) j ≡ false }
         ensures pair { IsPair (parens_of self.now) result j }
         ensures grows { steps.old ≤ steps.new }
-        ensures cost { steps.new ≤ steps.old + 4 * digits (length (parens_of self.now) + 2) + 40 }
+        ensures cost { steps.new ≤ steps.old + 2 * digits (length (parens_of self.now) + 2) + 16 }
     {
         match self.tree.backward(j, 1, steps) {
             Some(place) => place,
@@ -112,9 +112,44 @@ impl<'a> ParenView<'a> {
         ensures none { IsNone result ↔ (excess (parens_of self.now) gap ≡ pos 0) }
         ensures innermost { IfSome result (IsInnermost (parens_of self.now) gap) }
         ensures grows { steps.old ≤ steps.new }
-        ensures cost { steps.new ≤ steps.old + 4 * digits (length (parens_of self.now) + 2) + 40 }
+        ensures cost { steps.new ≤ steps.old + 2 * digits (length (parens_of self.now) + 2) + 26 }
     {
-        self.tree.backward(gap, 1, steps)
+        self.last_lower(gap, steps)
+    }
+
+    /// The last place before a gap where the excess is one less than there. It is looked for in the gap's word before all.
+    fn last_lower<C: Ledger>(&self, gap: usize, steps: &mut Steps<C>) -> Option<usize>
+        requires { gap ≤ length (parens_of self.now) }
+        ensures last { IsLast (λ p. excess (parens_of self.now) p ≡ excess (parens_of self.now) gap
+            -ℤ pos 1) 0 gap result }
+        ensures grows { steps.old ≤ steps.new }
+        ensures cost { steps.new ≤ steps.old + 2 * digits (length (parens_of self.now) + 2) + 26 }
+    {
+        if gap == 0 {
+            return None;
+        }
+        match self.tree.back_in_word(gap, 1, steps) {
+            Scan::Found(place) => Some(place),
+            Scan::Above(need) => self.last_below(64 * ((gap - 1) / 64), need, steps),
+        }
+    }
+
+    /// The last place before `i` where the excess is `drop` below that at `i`, or None where there is none, which the
+    /// count of what opens before `i` tells.
+    fn last_below<C: Ledger>(&self, i: usize, drop: u64, steps: &mut Steps<C>) -> Option<usize>
+        requires within { i ≤ length (parens_of self.now) }
+        requires some { 1 ≤ drop }
+        requires small { drop ≤ 4294967296 }
+        ensures last { IsLast (λ p. excess (parens_of self.now) p ≡ excess (parens_of self.now) i
+            -ℤ pos drop) 0 i result }
+        ensures grows { steps.old ≤ steps.new }
+        ensures cost { steps.new ≤ steps.old + 2 * digits (length (parens_of self.now) + 2) + 25 }
+    {
+        let opens = self.ranks.rank1(i, steps);
+        if 2 * (opens as u64) < i as u64 + drop {
+            return None;
+        }
+        self.tree.backward(i, drop, steps)
     }
 
     /// How many places before `i` open.

@@ -107,12 +107,21 @@ fn agrees<C: Ledger>(alloc: Global, ranks: RankView<'_>, bits: &[bool], blank: B
         if ranks.rank1(i, &mut steps) != ones || ranks.rank0(i, &mut steps) != zeros {
             return false;
         }
-        let place = if bits[i] {
-            ranks.select1(ones, &mut steps)
+        let far = len - i;
+        let places = if bits[i] {
+            [
+                ranks.select1(ones, &mut steps),
+                ranks.select1_near(ones, i, &mut steps),
+                ranks.select1_near(ones, far, &mut steps),
+            ]
         } else {
-            ranks.select0(zeros, &mut steps)
+            [
+                ranks.select0(zeros, &mut steps),
+                ranks.select0_near(zeros, i, &mut steps),
+                ranks.select0_near(zeros, far, &mut steps),
+            ]
         };
-        if place != Some(i) {
+        if places != [Some(i); 3] {
             return false;
         }
     }

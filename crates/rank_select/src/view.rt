@@ -438,6 +438,64 @@ impl<'a> RankView<'a> {
         self.select_by_search(kind, j, steps)
     }
 
+    /// The place of the bit of this kind that has `j` of its kind before it, or None where there is none: in the block of
+    /// place `near`, where it stands there, and else by a search.
+    #[tactic(auto, using(crate::proofs::CountLaws::select_costs))]
+    fn select_near<C: Ledger>(
+        &self,
+        kind: bool,
+        j: usize,
+        near: usize,
+        steps: &mut Steps<C>,
+    ) -> Option<usize>
+        ensures selected { IsSelected kind (counted self.now) j result }
+        ensures some_steps { steps.old + 1 ≤ steps.new }
+        ensures cost { steps.new ≤ steps.old + 2 * digits (length (counted self.now) + 2) + 12 }
+    {
+        let block = near / 512;
+        if self.bits.len() / 512 <= block {
+            return self.select_by_search(kind, j, steps);
+        }
+        let before = self.kind_before(kind, block, steps);
+        if j < before {
+            return self.select_by_search(kind, j, steps);
+        }
+        if j < self.kind_before(kind, block + 1, steps) {
+            return Some(self.select_in(kind, j, block, before, steps));
+        }
+        self.select_by_search(kind, j, steps)
+    }
+
+    /// The place of the one with `j` ones before it, or None where there are at most `j` ones. It is looked for in the
+    /// block of place `near` before all, which may be any number.
+    pub fn select1_near<C: Ledger>(
+        &self,
+        j: usize,
+        near: usize,
+        steps: &mut Steps<C>,
+    ) -> Option<usize>
+        ensures selected { IsSelected true (counted self.now) j result }
+        ensures some_steps { steps.old + 1 ≤ steps.new }
+        ensures cost { steps.new ≤ steps.old + 2 * digits (length (counted self.now) + 2) + 12 }
+    {
+        self.select_near(true, j, near, steps)
+    }
+
+    /// The place of the zero with `j` zeros before it, or None where there are at most `j` zeros. It is looked for in the
+    /// block of place `near` before all, which may be any number.
+    pub fn select0_near<C: Ledger>(
+        &self,
+        j: usize,
+        near: usize,
+        steps: &mut Steps<C>,
+    ) -> Option<usize>
+        ensures selected { IsSelected false (counted self.now) j result }
+        ensures some_steps { steps.old + 1 ≤ steps.new }
+        ensures cost { steps.new ≤ steps.old + 2 * digits (length (counted self.now) + 2) + 12 }
+    {
+        self.select_near(false, j, near, steps)
+    }
+
     /// The place of the one with `j` ones before it, or None where there are at most `j` ones.
     pub fn select1<C: Ledger>(&self, j: usize, steps: &mut Steps<C>) -> Option<usize>
         ensures selected { IsSelected true (counted self.now) j result }

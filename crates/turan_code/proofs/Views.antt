@@ -1,23 +1,26 @@
 -- What a sound code gives the calls of its view.
-use Rattle.std.specs.Prelude.{option_map, unwrap_or, if◌then◌else◌, IfSome, IsNone, ◌↔◌}
+use mathlib.Core.Bool.{beq}
+use Rattle.std.specs.Prelude.{unwrap_or, if◌then◌else◌, IfSome, IsNone, ◌↔◌}
 use Rattle.std.specs.Option.{option_and_then}
 use Rattle.std.proofs.Common.{◌≡◌, ℕ, zero, suc, ◌+◌, ◌-◌, ◌*◌, ◌<◌, ◌≤◌, inl, inr, Bool, true, false, List, length, refl, ap, sym, ◌∙◌, arith, subst, Option, Some, None}
-use Rattle.std.proofs.lemmas.Bool.{lt-ltb, le-ltb, cases_lt}
+use Rattle.std.proofs.lemmas.Bool.{lt-ltb, le-ltb, cases_lt, both_ways}
 use Rattle.bit_words.specs.Bits.{rank, select, same, IsSelected}
 use Rattle.bit_words.specs.Digits.{digits}
 use Rattle.bit_words.proofs.DigitLaws.{digits-halved, digits-mono}
+use Rattle.bit_words.proofs.Ranks.{rank_both}
 use Rattle.rank_select.proofs.Selects.{selected}
-use Rattle.parens.specs.Matching.{is_open, mate_of, pair_number, innermost}
+use Rattle.parens.specs.Matching.{is_open, mate_of, pair_number}
+use Rattle.parens.proofs.Arcs.{arc-opens, arc-closes}
 use Rattle.code_laws.specs.Code.{Code, is_tree, is_first, parens, place, mate, over, after, component_of, component_count, start_of, end_of}
 use Rattle.code_laws.specs.Numbers.{edge_of, node_of, ring_of, node_or_root, shell_or_outer, enclosing_pair, tree_edges, first_of_edge, first_of_node, first_of_shell, opening_position, one_on, edge_count, node_count, shell_count}
 use Rattle.code_laws.specs.SeqFault.{is_sound}
 use Rattle.code_laws.specs.declared.ring_number.RingNumber.TheVariants.{Outer, Shell}
-use Rattle.code_laws.proofs.Sound.{sound_parts, rises, start_within, places_within, in_one, is_component, first_start, last_start}
+use Rattle.code_laws.proofs.Sound.{sound_parts, whole, mates, rises, start_within, places_within, in_one, is_component, first_start, last_start}
 use Rattle.code_laws.proofs.Edges.{place_in, laws, edge_within}
-use Rattle.code_laws.proofs.Beside.{next_ring, turn_node}
+use Rattle.code_laws.proofs.Apart.{number_round, number_past, number_end}
+use Rattle.code_laws.proofs.Steps.{HasMate, Opens, Closes, pair-number}
 use Rattle.code_laws.proofs.Mates.{first_at}
 use Rattle.code_laws.proofs.Numbered.{round_below}
-use Rattle.code_laws.proofs.Places.{over_mate}
 use Rattle.code_laws.proofs.Selects.{pairs, edge_by_select, node_by_select, edge_none, node_none, shell_none, shell_by_select, node_within, node_first-within, shell_first-within}
 
 pub ruleset halving = (digits-halved, digits-mono)
@@ -29,6 +32,21 @@ chosen kind at bits j o e h = subst (λ k. o ≡ select k bits j) (sym e) (selec
 pub chosen_within : (at : Bool) (bits : List Bool) (j : ℕ) (o : Option ℕ) → IsSelected at bits j o → IfSome o (λ p. p < length bits)
 chosen_within at bits j None h = tt
 chosen_within at bits j (Some p) h = h.0
+
+pub chosen_place : (kind at : Bool) (bits : List Bool) (j : ℕ) (o : Option ℕ) → kind ≡ at → IsSelected at bits j o → IfSome o (λ p. rank kind bits p ≡ j)
+chosen_place kind at bits j None e h = tt
+chosen_place kind at bits j (Some p) e h = ap (λ k. rank k bits p) e ∙ h.2
+
+-- how many of the other kind stand before a position
+pub others_before : (c : Code) (own kind : Bool) (q x : ℕ) → beq own kind ≡ false → q ≤ length c.a → x ≡ place c own q → (x ≤ q) × (q - x ≡ place c kind q)
+others_before c true true q x h l e = cc
+others_before c true false q x h l e = let b = rank_both c.a q l in (omega (arith, b, e), omega (arith, b, e))
+others_before c false true q x h l e = let b = rank_both c.a q l in (omega (arith, b, e), omega (arith, b, e))
+others_before c false false q x h l e = cc
+
+-- the pair round the gap before a position, by its place
+pub round_at : (c : Code) (kind : Bool) (p x : ℕ) → x ≡ place c kind p → number_round (parens c kind) x ≡ enclosing_pair c kind p
+round_at c kind p x e = ap (number_round (parens c kind)) e ∙ sym (pair-number c kind p)
 
 module _ (c : Code) (h : is_sound c ≡ true) where
   sizes : length c.tree + length c.dual ≡ length c.a
@@ -144,14 +162,34 @@ module _ (c : Code) (h : is_sound c ≡ true) where
   pub edge_below : (p : ℕ) → p < length c.a → edge_of c p < edge_count c
   edge_below p l = let w = edge_within c (sound_parts c h) p l in omega (arith, w)
 
-  -- the pair round a gap, by its opening place
-  pub round_found : (kind : Bool) (p x i pair : ℕ) → x ≡ place c kind p → Some i ≡ innermost (parens c kind) x → pair ≡ rank true (parens c kind) i → Some pair ≡ enclosing_pair c kind p
-  unfolding enclosing_pair
-  round_found kind p x i pair e f g = ap Some g ∙ ap (option_map (rank true (parens c kind))) (f ∙ ap (innermost (parens c kind)) e)
+  -- the pair round the gap before a mate, by its own place: where that opens, and where it closes
+  first_mate : (kind : Bool) (p m x : ℕ) → x ≡ place c kind p → is_open (parens c kind) x ≡ true → HasMate c kind p m → Some (rank true (parens c kind) x) ≡ enclosing_pair c kind (mate c p)
+  first_mate kind p m x e opens (Opens q j arc k order inside) =
+      ap (λ y. Some (rank true (parens c kind) y)) e
+      ∙ sym (ap (enclosing_pair c kind) k.is_mate ∙ pair-number c kind q ∙ ap (number_round (parens c kind)) k.at_place
+      ∙ number_end (parens c kind) (whole c (sound_parts c h) kind) (place c kind p) j arc)
+  first_mate kind p m x e opens (Closes q i arc k order from) =
+      absurd (both_ways _ (arc-closes (parens c kind) i (place c kind p) arc) (ap (is_open (parens c kind)) (sym e) ∙ opens))
 
-  pub round_none : (kind : Bool) (p x : ℕ) → x ≡ place c kind p → None ≡ innermost (parens c kind) x → None ≡ enclosing_pair c kind p
-  unfolding enclosing_pair
-  round_none kind p x e f = ap (option_map (rank true (parens c kind))) (f ∙ ap (innermost (parens c kind)) e)
+  later_mate : (kind : Bool) (p m x : ℕ) → x ≡ place c kind p → is_open (parens c kind) x ≡ false → HasMate c kind p m → number_round (parens c kind) (x + 1) ≡ enclosing_pair c kind (mate c p)
+  later_mate kind p m x e closes (Closes q i arc k order from) =
+      ap (λ y. number_round (parens c kind) (y + 1)) e
+      ∙ number_past (parens c kind) (whole c (sound_parts c h) kind) i (place c kind p) arc
+      ∙ sym (ap (enclosing_pair c kind) k.is_mate ∙ pair-number c kind q ∙ ap (number_round (parens c kind)) k.at_place)
+  later_mate kind p m x e closes (Opens q j arc k order inside) =
+      absurd (both_ways _ (ap (is_open (parens c kind)) (sym e) ∙ closes) (arc-opens (parens c kind) (place c kind p) j arc))
+
+  pub mate_of_open : (kind : Bool) (p x : ℕ) → p < length c.a → is_tree c p ≡ kind → x ≡ place c kind p → is_open (parens c kind) x ≡ true → Some (rank true (parens c kind) x) ≡ enclosing_pair c kind (mate c p)
+  mate_of_open kind p x l is e opens =
+      let s = sound_parts c h in
+      let i = in_one c s p l in
+      first_mate kind p i.0 x e opens (mates c s kind p i.0 i.1 is)
+
+  pub mate_of_closed : (kind : Bool) (p x : ℕ) → p < length c.a → is_tree c p ≡ kind → x ≡ place c kind p → is_open (parens c kind) x ≡ false → number_round (parens c kind) (x + 1) ≡ enclosing_pair c kind (mate c p)
+  mate_of_closed kind p x l is e closes =
+      let s = sound_parts c h in
+      let i = in_one c s p l in
+      later_mate kind p i.0 x e closes (mates c s kind p i.0 i.1 is)
 
   pub node_found : (p pair : ℕ) → Some pair ≡ enclosing_pair c true p → component_count c + pair ≡ node_of c p
   unfolding node_of
@@ -168,20 +206,6 @@ module _ (c : Code) (h : is_sound c ≡ true) where
   pub outer_found : (p : ℕ) → None ≡ enclosing_pair c false p → Outer (component_of c p) ≡ ring_of c p
   unfolding ring_of
   outer_found p e = ap (shell_or_outer c p) e
-
-  -- the position after one of an edge that is none of the trees is of its mate's ring, and of one that is stands round
-  -- the mate's node
-  pub ring_after : (p : ℕ) → p < length c.a → is_tree c p ≡ false → ring_of c (after c p) ≡ ring_of c (mate c p)
-  ring_after p l is =
-      let s = sound_parts c h in
-      let k = laws c s p l in
-      ap (ring_of c) (sym (ap (after c) (over_mate c false (mate c p) (k.kind ∙ is) ∙ k.back))) ∙ (next_ring c s (mate c p) k.within).1
-
-  pub node_after : (p : ℕ) → p < length c.a → is_tree c p ≡ true → node_of c (after c p) ≡ node_of c (mate c p)
-  node_after p l is =
-      let s = sound_parts c h in
-      let k = laws c s p l in
-      ap (node_of c) (sym (ap (after c) (over_mate c true (mate c p) (k.kind ∙ is) ∙ k.back))) ∙ (turn_node c s (mate c p) k.within).1
 
   pub pair_below : (kind : Bool) (p pair : ℕ) → p < length c.a → Some pair ≡ enclosing_pair c kind p → pair < length c.a
   pair_below kind p pair l e =
@@ -240,3 +264,12 @@ module _ (c : Code) (h : is_sound c ≡ true) where
   -- the ring of a position is one of the code
   pub shell_below : (p pair : ℕ) → p < length c.a → Some pair ≡ enclosing_pair c false p → pair < shell_count c
   shell_below p pair l e = let s = sound_parts c h in let b = round_below c s false p pair l (sym e) in let m = pairs c s false in omega (arith, b, m)
+
+  -- the number of a pair round a gap before a position
+  pub pair_small : (kind : Bool) (p : ℕ) (o : Option ℕ) → p < length c.a → o ≡ enclosing_pair c kind p → IfSome o (λ n. n < length c.a)
+  pair_small kind p None l e = tt
+  pair_small kind p (Some pair) l e = pair_below kind p pair l e
+
+  pub shell_small : (p : ℕ) (o : Option ℕ) → p < length c.a → o ≡ enclosing_pair c false p → IfSome o (λ n. n < shell_count c)
+  shell_small p None l e = tt
+  shell_small p (Some pair) l e = shell_below p pair l e

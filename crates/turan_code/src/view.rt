@@ -39,6 +39,13 @@ pub struct Stop {
     pub next: usize,
 }
 
+/// A position, and its place among the parentheses of its kind.
+#[derive(Clone, Copy)]
+pub(crate) struct Mate {
+    position: usize,
+    place: usize,
+}
+
 /// What is found of a position's edge.
 #[derive(Clone, Copy)]
 pub(crate) struct Seen {
@@ -65,11 +72,11 @@ pub struct TuranView<'a> {
 }
 
 impl<'a> TuranView<'a> {
-    ghost use Rattle.std.specs.Prelude.{◌≡◌, ◌≢◌, ◌<◌, ◌≤◌, ◌+◌, ◌-◌, ◌*◌, ◌==◌, ◌↔◌, length, true, false, Bool, IsTrue, IsNone, IfSome, Some, None, nat_lt, if◌then◌else◌, slice_index};
+    ghost use Rattle.std.specs.Prelude.{ℕ, ◌≡◌, ◌≢◌, ◌<◌, ◌≤◌, ◌+◌, ◌-◌, ◌*◌, ◌==◌, ◌↔◌, length, true, false, Bool, IsTrue, IsNone, IfSome, Some, None, nat_lt, if◌then◌else◌, slice_index, option_map};
     ghost use Rattle.bit_words.specs.Digits.{digits};
-    ghost use Rattle.bit_words.specs.Bits.{select};
+    ghost use Rattle.bit_words.specs.Bits.{rank, select};
     ghost use Rattle.bit_words.specs.PackedView.{width_of};
-    ghost use Rattle.parens.specs.Matching.{mate_of, is_open};
+    ghost use Rattle.parens.specs.Matching.{mate_of, is_open, innermost};
     ghost use Rattle.code_laws.specs.Code.{is_tree, is_first, parens, place, mate, component_of, component_count, start_of, end_of, after, before, turn, next, turn_back, next_back, over, step, step_back};
     ghost use Rattle.code_laws.specs.Numbers.{tree_edges, edge_of, node_of, ring_of, enclosing_pair, first_of_edge, first_of_node, first_of_shell, opening_position, one_on, edge_count, node_count, shell_count, has_ring};
     ghost use Rattle.code_laws.specs.SeqFault.{is_sound};
@@ -145,6 +152,28 @@ impl<'a> TuranView<'a> {
             self.parts.a.select1(q, steps)
         } else {
             self.parts.a.select0(q, steps)
+        }
+    }
+
+    /// The position of place `q` of one kind, which is looked for near another position before all, or None where there is
+    /// no such place.
+    fn position_near<C: Ledger>(
+        &self,
+        kind: bool,
+        q: usize,
+        near: usize,
+        steps: &mut Steps<C>,
+    ) -> Option<usize>
+        ensures position { result ≡ select kind (code_of_view self.now).a q }
+        ensures within { IfSome result (λ p. p < length (code_of_view self.now).a) }
+        ensures place { IfSome result (λ p. place (code_of_view self.now) kind p ≡ q) }
+        ensures some_steps { steps.old + 1 ≤ steps.new }
+        ensures cost { steps.new ≤ steps.old + 2 * digits (length (code_of_view self.now).a + 2) + 12 }
+    {
+        if kind {
+            self.parts.a.select1_near(q, near, steps)
+        } else {
+            self.parts.a.select0_near(q, near, steps)
         }
     }
 
@@ -281,6 +310,25 @@ impl<'a> TuranView<'a> {
         }
     }
 
+    /// The other position of the edge of position `p`, which is of this kind, and its place among the parentheses of the
+    /// kind.
+    fn mated<C: Ledger>(&self, kind: bool, p: usize, steps: &mut Steps<C>) -> Mate
+        requires within { p < length (code_of_view self.now).a }
+        requires kind { is_tree (code_of_view self.now) p ≡ kind }
+        ensures mate { result.position ≡ mate (code_of_view self.now) p }
+        ensures within { result.position < length (code_of_view self.now).a }
+        ensures place { result.place ≡ place (code_of_view self.now) kind result.position }
+        ensures some_steps { steps.old + 1 ≤ steps.new }
+        ensures cost { steps.new ≤ steps.old + 7 * digits (length (code_of_view self.now).a + 2) + 60 }
+    {
+        let own = self.place_of(kind, p, steps);
+        let place = self.parens(kind).mate(own, steps);
+        match self.position_near(kind, place, p, steps) {
+            Some(position) => Mate { position, place },
+            None => unreachable!(),
+        }
+    }
+
     /// The other position of the edge of position `p`, which is of this kind.
     fn mate_of_kind<C: Ledger>(&self, kind: bool, p: usize, steps: &mut Steps<C>) -> usize
         requires within { p < length (code_of_view self.now).a }
@@ -290,12 +338,7 @@ impl<'a> TuranView<'a> {
         ensures some_steps { steps.old + 1 ≤ steps.new }
         ensures cost { steps.new ≤ steps.old + 7 * digits (length (code_of_view self.now).a + 2) + 60 }
     {
-        let place = self.place_of(kind, p, steps);
-        let mate = self.parens(kind).mate(place, steps);
-        match self.position(kind, mate, steps) {
-            Some(position) => position,
-            None => unreachable!(),
-        }
+        self.mated(kind, p, steps).position
     }
 
     /// The mate of a position of this kind, and any other position as it is.
@@ -447,18 +490,85 @@ impl<'a> TuranView<'a> {
         self.component(p, 0, steps) as u32
     }
 
+    /// The number, among the pairs of one kind, of the innermost pair round the gap of a place of the kind.
+    fn pair_round<C: Ledger>(&self, kind: bool, place: usize, steps: &mut Steps<C>) -> Option<usize>
+        requires { place ≤ length (parens (code_of_view self.now) kind) }
+        ensures pair { result ≡ option_map (rank true (parens (code_of_view self.now) kind))
+            (innermost (parens (code_of_view self.now) kind) place) }
+        ensures grows { steps.old ≤ steps.new }
+        ensures cost { steps.new ≤ steps.old + 2 * digits (length (code_of_view self.now).a + 2) + 35 }
+    {
+        let parens = self.parens(kind);
+        match parens.enclose(place, steps) {
+            Some(opening) => Some(parens.opens_before(opening, steps)),
+            None => None,
+        }
+    }
+
     /// The number, among the pairs of one kind, of the innermost pair round the gap before position `p`.
     fn enclosing_pair<C: Ledger>(&self, kind: bool, p: usize, steps: &mut Steps<C>) -> Option<usize>
         requires { p < length (code_of_view self.now).a }
         ensures pair { result ≡ enclosing_pair (code_of_view self.now) kind p }
         ensures some_steps { steps.old + 1 ≤ steps.new }
-        ensures cost { steps.new ≤ steps.old + 4 * digits (length (code_of_view self.now).a + 2) + 58 }
+        ensures cost { steps.new ≤ steps.old + 2 * digits (length (code_of_view self.now).a + 2) + 44 }
     {
         let place = self.place(kind, p, steps);
+        self.pair_round(kind, place, steps)
+    }
+
+    /// The same of the mate of position `p`, whose edge is of this kind: the pair of `p`, where `p` opens it, and else the
+    /// one round the gap after `p`. So no mate is looked for.
+    fn pair_round_mate<C: Ledger>(
+        &self,
+        kind: bool,
+        p: usize,
+        steps: &mut Steps<C>,
+    ) -> Option<usize>
+        requires within { p < length (code_of_view self.now).a }
+        requires kind { is_tree (code_of_view self.now) p ≡ kind }
+        ensures pair { result ≡ enclosing_pair (code_of_view self.now) kind (mate (code_of_view self.now) p) }
+        ensures some_steps { steps.old + 1 ≤ steps.new }
+        ensures cost { steps.new ≤ steps.old + 2 * digits (length (code_of_view self.now).a + 2) + 45 }
+    {
+        let place = self.place_of(kind, p, steps);
         let parens = self.parens(kind);
-        match parens.enclose(place, steps) {
-            Some(opening) => Some(parens.opens_before(opening, steps)),
-            None => None,
+        if parens.is_open(place, steps) {
+            Some(parens.opens_before(place, steps))
+        } else {
+            self.pair_round(kind, place + 1, steps)
+        }
+    }
+
+    /// The same of the mate of position `p`, whatever its kind: where it is the other one, the positions of this kind before
+    /// the mate are those that the mate's place leaves, so they aren't counted.
+    fn pair_across<C: Ledger>(&self, kind: bool, p: usize, steps: &mut Steps<C>) -> Option<usize>
+        requires { p < length (code_of_view self.now).a }
+        ensures pair { result ≡ enclosing_pair (code_of_view self.now) kind (mate (code_of_view self.now) p) }
+        ensures some_steps { steps.old + 1 ≤ steps.new }
+        ensures cost { steps.new ≤ steps.old + 9 * digits (length (code_of_view self.now).a + 2) + 96 }
+    {
+        let own = self.is_tree(p, steps);
+        if own == kind {
+            return self.pair_round_mate(kind, p, steps);
+        }
+        let mate = self.mated(own, p, steps);
+        self.pair_round(kind, mate.position - mate.place, steps)
+    }
+
+    /// The number of a node round which this pair of the trees stands, or, where none does, of the root of the component
+    /// that position `p` is in.
+    fn node_of_pair<C: Ledger>(&self, pair: Option<usize>, p: usize, steps: &mut Steps<C>) -> u32
+        requires within { p < length (code_of_view self.now).a }
+        requires small { IfSome pair (λ n. n < length (code_of_view self.now).a) }
+        ensures node { (q : ℕ) → pair ≡ enclosing_pair (code_of_view self.now) true q
+            → component_of (code_of_view self.now) q ≡ component_of (code_of_view self.now) p
+            → result ≡ node_of (code_of_view self.now) q }
+        ensures grows { steps.old ≤ steps.new }
+        ensures cost { steps.new ≤ steps.old + digits (length (code_of_view self.now).a + 2) + 1 }
+    {
+        match pair {
+            Some(pair) => (self.components() + pair) as u32,
+            None => self.component_of(p, steps),
         }
     }
 
@@ -471,22 +581,29 @@ impl<'a> TuranView<'a> {
         ensures some_steps { steps.old + 1 ≤ steps.new }
         ensures cost { steps.new ≤ steps.old + 5 * digits (length (code_of_view self.now).a + 2) + 59 }
     {
-        match self.enclosing_pair(true, p, steps) {
-            Some(pair) => (self.components() + pair) as u32,
-            None => self.component_of(p, steps),
-        }
+        let pair = self.enclosing_pair(true, p, steps);
+        self.node_of_pair(pair, p, steps)
     }
 
-    /// The ring of position `p`: its component's outer ring, or the shell of an edge that is none of the trees. The
-    /// component is looked for in `near` before all.
-    fn ring_near<C: Ledger>(&self, p: usize, near: usize, steps: &mut Steps<C>) -> RingNumber
-        requires { p < length (code_of_view self.now).a }
-        ensures ring { result ≡ ring_of (code_of_view self.now) p }
+    /// The ring round which this pair of the other edges stands: its shell, or, where there is no such pair, the outer ring
+    /// of the component that position `p` is in, which is looked for in `near` before all.
+    fn ring_of_pair<C: Ledger>(
+        &self,
+        pair: Option<usize>,
+        p: usize,
+        near: usize,
+        steps: &mut Steps<C>,
+    ) -> RingNumber
+        requires within { p < length (code_of_view self.now).a }
+        requires small { IfSome pair (λ n. n < shell_count (code_of_view self.now)) }
+        ensures ring { (q : ℕ) → pair ≡ enclosing_pair (code_of_view self.now) false q
+            → component_of (code_of_view self.now) q ≡ component_of (code_of_view self.now) p
+            → result ≡ ring_of (code_of_view self.now) q }
         ensures within { IsTrue (has_ring (code_of_view self.now) result) }
-        ensures some_steps { steps.old + 1 ≤ steps.new }
-        ensures cost { steps.new ≤ steps.old + 5 * digits (length (code_of_view self.now).a + 2) + 59 }
+        ensures grows { steps.old ≤ steps.new }
+        ensures cost { steps.new ≤ steps.old + digits (length (code_of_view self.now).a + 2) + 1 }
     {
-        match self.enclosing_pair(false, p, steps) {
+        match pair {
             Some(pair) => RingNumber::Shell(pair as u32),
             None => RingNumber::Outer(self.component(p, near, steps) as u32),
         }
@@ -500,34 +617,8 @@ impl<'a> TuranView<'a> {
         ensures some_steps { steps.old + 1 ≤ steps.new }
         ensures cost { steps.new ≤ steps.old + 5 * digits (length (code_of_view self.now).a + 2) + 59 }
     {
-        self.ring_near(p, 0, steps)
-    }
-
-    /// A position round the node that the mate of position `p` leaves, or, where `kind` is false, of the mate's ring:
-    /// the mate, where the edge is of the other kind, and else the position that follows the mate there. So no mate is
-    /// looked for where the edge is of this kind.
-    fn beside_mate<C: Ledger>(
-        &self,
-        kind: bool,
-        p: usize,
-        near: &mut usize,
-        steps: &mut Steps<C>,
-    ) -> usize
-        requires { p < length (code_of_view self.now).a }
-        ensures node { kind ≡ true
-            → node_of (code_of_view self.now) result ≡ node_of (code_of_view self.now) (mate (code_of_view self.now) p) }
-        ensures ring { kind ≡ false
-            → ring_of (code_of_view self.now) result ≡ ring_of (code_of_view self.now) (mate (code_of_view self.now) p) }
-        ensures within { result < length (code_of_view self.now).a }
-        ensures some_steps { steps.old + 1 ≤ steps.new }
-        ensures cost { steps.new ≤ steps.old + 7 * digits (length (code_of_view self.now).a + 2) + 61 }
-    {
-        let own = self.is_tree(p, steps);
-        if own == kind {
-            self.after(p, near, steps)
-        } else {
-            self.mate_of_kind(own, p, steps)
-        }
+        let pair = self.enclosing_pair(false, p, steps);
+        self.ring_of_pair(pair, p, 0, steps)
     }
 
     /// The number of the node that the edge at position `p` reaches: the one that its mate leaves.
@@ -538,8 +629,8 @@ impl<'a> TuranView<'a> {
         ensures some_steps { steps.old + 1 ≤ steps.new }
         ensures cost { steps.new ≤ steps.old + 12 * digits (length (code_of_view self.now).a + 2) + 120 }
     {
-        let beside = self.beside_mate(true, p, &mut 0, steps);
-        self.node_of(beside, steps)
+        let pair = self.pair_across(true, p, steps);
+        self.node_of_pair(pair, p, steps)
     }
 
     /// The ring across the edge at position `p`: that of its mate. Their component is looked for in `near` before all.
@@ -550,9 +641,8 @@ impl<'a> TuranView<'a> {
         ensures some_steps { steps.old + 1 ≤ steps.new }
         ensures cost { steps.new ≤ steps.old + 12 * digits (length (code_of_view self.now).a + 2) + 120 }
     {
-        let mut near = near;
-        let beside = self.beside_mate(false, p, &mut near, steps);
-        self.ring_near(beside, near, steps)
+        let pair = self.pair_across(false, p, steps);
+        self.ring_of_pair(pair, p, near, steps)
     }
 
     /// The place that opens the pair of place `place` of one kind, and whether it is that one.
@@ -629,13 +719,12 @@ impl<'a> TuranView<'a> {
         ensures some_steps { steps.old + 1 ≤ steps.new }
         ensures cost { steps.new ≤ steps.old + 7 * digits (length (code_of_view self.now).a + 2) + 51 }
     {
-        let _own = p;
         let mate = if seen.is_first {
             self.parens(seen.tree).mate(seen.place, steps)
         } else {
             seen.opening
         };
-        match self.position(seen.tree, mate, steps) {
+        match self.position_near(seen.tree, mate, p, steps) {
             Some(position) => position,
             None => unreachable!(),
         }

@@ -15,7 +15,7 @@ unreachable-requires g c =
       | then-seen w ↦ w.mate-is ∙ w.mate-mate.ensures.mate ∙ ap (λ bits. mate_of bits c.args.seen.place) w.parens.ensures.parens
       | else-seen w ↦ w.mate-is ∙ seen.opening ∙ ap (λ t. if t then c.args.seen.place else mate_of (parens code c.args.seen.tree) c.args.seen.place) (sym seen.first ∙ w.if-seen.false)
     ] in
-    mate_there code v.sound c.args.seen.tree c.args.p c.args.seen.place c.if-seen.mate c.requires.within (sym seen.tree) seen.place mate (sym c.in-None.is ∙ c.position.ensures.position)
+    mate_there code v.sound c.args.seen.tree c.args.p c.args.seen.place c.if-seen.mate c.requires.within (sym seen.tree) seen.place mate (sym c.in-None.is ∙ c.position_near.ensures.position)
 
 pub returns-clause-mate : goal.returns-clause-mate
 returns-clause-mate g c =
@@ -26,4 +26,4 @@ returns-clause-mate g c =
       | then-seen w ↦ w.mate-is ∙ w.mate-mate.ensures.mate ∙ ap (λ bits. mate_of bits c.args.seen.place) w.parens.ensures.parens
       | else-seen w ↦ w.mate-is ∙ seen.opening ∙ ap (λ t. if t then c.args.seen.place else mate_of (parens code c.args.seen.tree) c.args.seen.place) (sym seen.first ∙ w.if-seen.false)
     ] in
-    mate_found code v.sound c.args.seen.tree c.args.p c.in-Some.position c.args.seen.place c.if-seen.mate (sym seen.tree) seen.place mate (sym c.in-Some.is ∙ c.position.ensures.position)
+    mate_found code v.sound c.args.seen.tree c.args.p c.in-Some.position c.args.seen.place c.if-seen.mate (sym seen.tree) seen.place mate (sym c.in-Some.is ∙ c.position_near.ensures.position)
