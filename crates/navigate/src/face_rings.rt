@@ -15,6 +15,7 @@ use std::sync::ledger::Ledger;
 use topo_base::{FaceId, Signed};
 
 /// Where nothing is left of a ring and another hole comes before `end`, goes on to the outer ring of that one.
+#[inline(always)]
 fn settle<'a, C: Ledger>(
     served: Served<'a>,
     ring: &mut OrbitWalk<'a>,
@@ -59,7 +60,7 @@ pub struct FaceWalk<'a> {
 }
 
 impl<'a> FaceWalk<'a> {
-    ghost use Rattle.std.specs.Prelude.{◌≡◌, ◌<◌, ◌≤◌, ◌+◌, ◌*◌, ◌∷◌, ◌++◌, [], drop, length, IsSome, IsNone, MatchOption};
+    ghost use Rattle.std.specs.Prelude.{◌≡◌, ◌<◌, ◌≤◌, ◌+◌, ◌*◌, ◌∷◌, ◌++◌, ◌↔◌, [], drop, length, IsSome, IsNone, IsTrue, MatchOption};
     ghost use Rattle.std.specs.Iterator.{YieldsFirst};
     ghost use Rattle.pemb_file.specs.Served.{contents_of_view};
     ghost use Rattle.navigate.specs.Bound.{line_digits};
@@ -110,7 +111,15 @@ impl<'a> FaceWalk<'a> {
         }
     }
 
+    /// Whether nothing is left of it.
+    pub fn is_over(&self) -> bool
+        ensures { IsTrue result ↔ (rest self.now ≡ []) }
+    {
+        self.peek().is_none()
+    }
+
     /// The next position, or None at the end.
+    #[inline(always)]
     pub fn pass<C: Ledger>(&mut self, steps: &mut Steps<C>) -> Option<usize>
         ensures contents { contents_in self.new ≡ contents_in self.old }
         ensures next { MatchOption result (face_positions self.old ≡ [])
@@ -168,6 +177,7 @@ impl<'a> FaceWalk<'a> {
     }
 
     /// The next signed edges, as many as are given at once, or fewer: none at the end alone.
+    #[inline(always)]
     pub fn several<C: Ledger>(&mut self, steps: &mut Steps<C>) -> Several
         ensures contents { contents_in self.new ≡ contents_in self.old }
         ensures gives { rest self.old ≡ edges_in result ++ rest self.new }

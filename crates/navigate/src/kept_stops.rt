@@ -23,6 +23,7 @@ impl KeptStop {
     ghost use Rattle.navigate.specs.KeptStops.{IsStop, IsKept};
 
     /// What is kept of this stop at a position. None of one that is too far on.
+    #[inline(always)]
     fn of(at: usize, stop: Stop) -> Option<KeptStop>
         ensures { (code : Code) → (kind : Bool) → IsStop code kind at stop → IfSome result (IsKept code kind) }
     {
@@ -67,6 +68,7 @@ impl KeptStops {
     }
 
     /// Keeps what stands at a position, where there is room for it.
+    #[inline(always)]
     pub(crate) fn keep(&mut self, at: usize, stop: Stop)
         ensures { (code : Code) → (kind : Bool) → AreKept code kind self.old → IsStop code kind at stop
             → AreKept code kind self.new }
@@ -82,6 +84,7 @@ impl KeptStops {
     }
 
     /// What stands at a position, if it is the one whose turn it is.
+    #[inline(always)]
     pub(crate) fn pass(&mut self, at: usize) -> Option<KeptStop>
         ensures kept { (code : Code) → (kind : Bool) → AreKept code kind self.old → AreKept code kind self.new }
         ensures stop { (code : Code) → (kind : Bool) → AreKept code kind self.old → IfSome result (IsKept code kind) }

@@ -43,7 +43,7 @@ pub type NodeWalk<'a> = OrbitWalk<'a>;
 pub type RingWalk<'a> = OrbitWalk<'a>;
 
 impl<'a> OrbitWalk<'a> {
-    ghost use Rattle.std.specs.Prelude.{ℤ, List, ◌≡◌, ◌<◌, ◌≤◌, ◌+◌, ◌*◌, ◌++◌, [], ◌∷◌, drop, length, IsSome, IsNone, IfSome, MatchOption};
+    ghost use Rattle.std.specs.Prelude.{ℤ, List, ◌≡◌, ◌<◌, ◌≤◌, ◌+◌, ◌*◌, ◌++◌, ◌↔◌, [], ◌∷◌, drop, length, IsSome, IsNone, IsTrue, IfSome, MatchOption};
     ghost use Rattle.std.specs.Iterator.{YieldsFirst};
     ghost use Rattle.code_laws.specs.Code as codes;
     ghost use Rattle.code_laws.specs.Orbits.{orbit};
@@ -113,6 +113,13 @@ impl<'a> OrbitWalk<'a> {
         if self.left == 0 { None } else { Some(self.at) }
     }
 
+    /// Whether nothing is left of it.
+    pub fn is_over(&self) -> bool
+        ensures { IsTrue result ↔ (rest self.now ≡ []) }
+    {
+        self.peek().is_none()
+    }
+
     /// The component in which the next position may be.
     #[inline]
     pub(crate) fn component(&self) -> usize
@@ -122,6 +129,7 @@ impl<'a> OrbitWalk<'a> {
     }
 
     /// Goes on to this position, which comes after the next one, or to the end where it is the first again.
+    #[inline(always)]
     fn go_on(&mut self, next: usize)
         requires some { 0 < self.old.left }
         requires within { next < length (contents_in self.old).code.a }
@@ -139,6 +147,7 @@ impl<'a> OrbitWalk<'a> {
     }
 
     /// The position after the next one: by what is kept of that one, or by a step.
+    #[inline(always)]
     fn following<C: Ledger>(&mut self, steps: &mut Steps<C>) -> usize
         requires { 0 < self.old.left }
         ensures same { (self.new.at ≡ self.old.at) × (self.new.left ≡ self.old.left) }
@@ -159,6 +168,7 @@ impl<'a> OrbitWalk<'a> {
     }
 
     /// The next position, or None at the end.
+    #[inline(always)]
     pub(crate) fn pass<C: Ledger>(&mut self, steps: &mut Steps<C>) -> Option<usize>
         ensures contents { contents_in self.new ≡ contents_in self.old }
         ensures next { MatchOption result (positions_left self.old ≡ [])
@@ -178,6 +188,7 @@ impl<'a> OrbitWalk<'a> {
     }
 
     /// What stands at the next position.
+    #[inline(always)]
     fn look<C: Ledger>(&mut self, steps: &mut Steps<C>) -> Stop
         requires { 0 < self.old.left }
         ensures same { (self.new.at ≡ self.old.at) × (self.new.left ≡ self.old.left) }
@@ -227,6 +238,7 @@ impl<'a> OrbitWalk<'a> {
     }
 
     /// The next position and the rank of its signed edge among these names of the edges, or None at the end.
+    #[inline(always)]
     pub(crate) fn ranked<C: Ledger>(
         &mut self,
         edges: &NamesView<'_>,
@@ -270,6 +282,7 @@ impl<'a> OrbitWalk<'a> {
 
     /// The signed edges at the next positions by their ranks among these names of the edges, as many as are given at
     /// once, or fewer: none at the end alone.
+    #[inline(always)]
     fn several_ranked<C: Ledger>(
         &mut self,
         edges: &NamesView<'_>,
@@ -295,6 +308,7 @@ impl<'a> OrbitWalk<'a> {
     }
 
     /// The next signed edges, as many as are given at once, or fewer: none at the end alone.
+    #[inline(always)]
     pub fn several<C: Ledger>(&mut self, steps: &mut Steps<C>) -> Several
         ensures contents { contents_in self.new ≡ contents_in self.old }
         ensures gives { rest self.old ≡ edges_in result ++ rest self.new }

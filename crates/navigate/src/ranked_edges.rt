@@ -19,6 +19,7 @@ use std::sync::ledger::Ledger;
 pub(crate) type RankedEdges = ArrayVec<RankedEdge, SEVERAL>;
 
 /// The signed edges of these ranks among the names. No read of an id waits for that of another.
+#[inline(always)]
 pub(crate) fn edges_of<C: Ledger>(
     names: &NamesView<'_>,
     ranks: &[RankedEdge],

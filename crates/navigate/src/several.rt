@@ -33,6 +33,7 @@ impl Several {
     }
 
     /// One more behind them.
+    #[inline(always)]
     pub(crate) fn push(&mut self, edge: Signed)
         requires { length (edges_in self.old) < SEVERAL }
         ensures { edges_in self.new ≡ edges_in self.old ++ edge ∷ [] }

@@ -39,6 +39,7 @@ pub(crate) fn gather<K: Sink>(out: &mut K, text: &mut Gathered, bytes: &[u8]) ->
 }
 
 /// Gathers a space and the digits of a number.
+#[inline(always)]
 pub(crate) fn gather_spaced<K: Sink>(
     out: &mut K,
     text: &mut Gathered,

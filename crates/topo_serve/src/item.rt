@@ -22,6 +22,7 @@ pub(crate) enum Item {
 }
 
 /// Gathers the text of an item: a space, `n` before an isolated node, and the number.
+#[inline(always)]
 pub(crate) fn gather_item<K: Sink>(
     out: &mut K,
     text: &mut Gathered,

@@ -33,6 +33,7 @@ pub(crate) trait Items {
 }
 
 /// Gathers the texts of the next items.
+#[inline(always)]
 fn gather_items<K: Sink>(out: &mut K, text: &mut Gathered, items: &NextItems) -> Result<(), Failed>
     ensures { Writes result (out_at (K.held out.old) (K.faults out.old) text.old.items)
         (out_at (K.held out.new) (K.faults out.new) text.new.items) (flat_map item_text (items_of items.now)) }
@@ -87,6 +88,7 @@ pub(crate) fn list_known<W: Items + Drop, K: Sink, C: Ledger>(
 }
 
 /// Numbers as items.
+#[inline(always)]
 pub(crate) fn list_numbers<K: Sink>(
     out: &mut K,
     text: &mut Gathered,
@@ -103,6 +105,7 @@ pub(crate) fn list_numbers<K: Sink>(
 }
 
 /// Signed edges as items.
+#[inline(always)]
 fn list_edges<K: Sink>(out: &mut K, text: &mut Gathered, edges: &[Signed]) -> Result<(), Failed>
     ensures { Writes result (out_at (K.held out.old) (K.faults out.old) text.old.items)
         (out_at (K.held out.new) (K.faults out.new) text.new.items)

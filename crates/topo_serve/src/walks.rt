@@ -19,7 +19,11 @@ impl Items for NodeWalk<'_> {
 
     ghost allowance = { λ w. orbits.allowance w };
 
+    #[inline(always)]
     fn next_items<C: Ledger>(&mut self, steps: &mut Steps<C>) -> NextItems {
+        if self.is_over() {
+            return NextItems::End;
+        }
         NextItems::Edges(self.several(steps))
     }
 }
@@ -31,7 +35,11 @@ impl Items for FaceWalk<'_> {
 
     ghost allowance = { λ w. rings.allowance w };
 
+    #[inline(always)]
     fn next_items<C: Ledger>(&mut self, steps: &mut Steps<C>) -> NextItems {
+        if self.is_over() {
+            return NextItems::End;
+        }
         NextItems::Edges(self.several(steps))
     }
 }
@@ -43,6 +51,7 @@ impl Items for IslandWalk<'_> {
 
     ghost allowance = { λ w. islands.allowance w };
 
+    #[inline(always)]
     fn next_items<C: Ledger>(&mut self, steps: &mut Steps<C>) -> NextItems {
         match self.step(steps) {
             Some(island) => NextItems::One(island_item(island)),
@@ -68,6 +77,7 @@ impl Items for RegionWalk<'_> {
 
     ghost allowance = { λ w. regions.allowance w };
 
+    #[inline(always)]
     fn next_items<C: Ledger>(&mut self, steps: &mut Steps<C>) -> NextItems {
         match self.step(steps) {
             Some(region) => NextItems::One(Item::Number(region.0)),

@@ -275,6 +275,7 @@ impl<'a> TuranView<'a> {
 
     /// The position after `p`, round its component. A walk stays in one component: it is looked for in `near` before
     /// all, and stands there in the end.
+    #[inline(always)]
     pub fn after<C: Ledger>(&self, p: usize, near: &mut usize, steps: &mut Steps<C>) -> usize
         requires { p < length (code_of_view self.now).a }
         ensures after { result ≡ after (code_of_view self.now) p }
@@ -491,6 +492,7 @@ impl<'a> TuranView<'a> {
     }
 
     /// The number, among the pairs of one kind, of the innermost pair round the gap of a place of the kind.
+    #[inline(always)]
     fn pair_round<C: Ledger>(&self, kind: bool, place: usize, steps: &mut Steps<C>) -> Option<usize>
         requires { place ≤ length (parens (code_of_view self.now) kind) }
         ensures pair { result ≡ option_map (rank true (parens (code_of_view self.now) kind))
@@ -518,6 +520,7 @@ impl<'a> TuranView<'a> {
 
     /// The same of the mate of position `p`, whose edge is of this kind: the pair of `p`, where `p` opens it, and else the
     /// one round the gap after `p`. So no mate is looked for.
+    #[inline(always)]
     fn pair_round_mate<C: Ledger>(
         &self,
         kind: bool,
@@ -541,6 +544,7 @@ impl<'a> TuranView<'a> {
 
     /// The same of the mate of position `p`, whatever its kind: where it is the other one, the positions of this kind before
     /// the mate are those that the mate's place leaves, so they aren't counted.
+    #[inline(always)]
     fn pair_across<C: Ledger>(&self, kind: bool, p: usize, steps: &mut Steps<C>) -> Option<usize>
         requires { p < length (code_of_view self.now).a }
         ensures pair { result ≡ enclosing_pair (code_of_view self.now) kind (mate (code_of_view self.now) p) }
@@ -587,6 +591,7 @@ impl<'a> TuranView<'a> {
 
     /// The ring round which this pair of the other edges stands: its shell, or, where there is no such pair, the outer ring
     /// of the component that position `p` is in, which is looked for in `near` before all.
+    #[inline(always)]
     fn ring_of_pair<C: Ledger>(
         &self,
         pair: Option<usize>,
@@ -677,6 +682,7 @@ impl<'a> TuranView<'a> {
     }
 
     /// A position, with what is found of its edge.
+    #[inline(always)]
     fn see<C: Ledger>(&self, p: usize, steps: &mut Steps<C>) -> Seen
         requires { p < length (code_of_view self.now).a }
         ensures seen { IsSeen (code_of_view self.now) p result }
@@ -732,6 +738,7 @@ impl<'a> TuranView<'a> {
 
     /// The edge at position `p`, and the next position of its orbit: round its node where `kind` is true, else round
     /// its ring. Their component is looked for in `near` before all, and stands there in the end.
+    #[inline(always)]
     pub fn stop<C: Ledger>(
         &self,
         kind: bool,
