@@ -103,14 +103,14 @@ impl<'a> TuranView<'a> {
     }
 
     /// The parentheses of one kind of edges: those of the trees, or the others.
-    fn parens(&self, kind: bool) -> ParenView<'a>
-        ensures parens { parens_of result ≡ parens (code_of_view self.now) kind }
-        ensures fewer { digits (length (parens_of result) + 2) ≤ digits (length (code_of_view self.now).a + 2) }
+    fn parens(&self, kind: bool) -> &ParenView<'a>
+        ensures parens { parens_of result.now ≡ parens (code_of_view self.now) kind }
+        ensures fewer { digits (length (parens_of result.now) + 2) ≤ digits (length (code_of_view self.now).a + 2) }
     {
         if kind {
-            self.parts.tree
+            &self.parts.tree
         } else {
-            self.parts.dual
+            &self.parts.dual
         }
     }
 
