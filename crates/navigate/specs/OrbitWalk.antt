@@ -2,6 +2,8 @@
 use Rattle.std.specs.Prelude.{ℕ, ◌+◌, ◌*◌, ℤ, List, map, length}
 use Rattle.code_laws.specs.Code.{step}
 use Rattle.code_laws.specs.Orbits.{walk}
+use Rattle.id_names.specs.RisingNames.{RisingNames}
+use Rattle.id_names.specs.Views.{names_in}
 use Rattle.file_laws.specs.Contents.{Contents}
 use Rattle.file_laws.specs.MapOfFile.{signed_at}
 use Rattle.pemb_file.specs.Served.{contents_of_view}
@@ -11,6 +13,10 @@ use Rattle.navigate.specs.declared.orbit_walk.OrbitWalk.{OrbitWalk}
 -- the contents that it goes over
 abbrev pub contents_in : OrbitWalk → Contents
 contents_in w = contents_of_view w.served
+
+-- the names of the edges, among which it finds ranks
+abbrev pub edge_names : OrbitWalk → RisingNames
+edge_names w = names_in w.edges.now
 
 -- the positions that it still goes through
 unfoldable pub positions_left : OrbitWalk → List ℕ

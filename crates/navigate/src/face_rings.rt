@@ -176,21 +176,22 @@ impl<'a> FaceWalk<'a> {
         }
     }
 
-    /// The next signed edges, as many as are given at once, or fewer: none at the end alone.
+    /// Puts down the next signed edges, in the place of those that stood there: as many as are given at once, or fewer,
+    /// and none at the end alone.
     #[inline(always)]
-    pub fn several<C: Ledger>(&mut self, steps: &mut Steps<C>) -> Several
+    pub fn several<C: Ledger>(&mut self, edges: &mut Several, steps: &mut Steps<C>)
         ensures contents { contents_in self.new ≡ contents_in self.old }
-        ensures gives { rest self.old ≡ edges_in result ++ rest self.new }
-        ensures end { edges_in result ≡ [] → rest self.old ≡ [] }
-        ensures least { steps.old + length (edges_in result) ≤ steps.new }
-        ensures free { edges_in result ≡ [] → steps.new ≡ steps.old }
+        ensures gives { rest self.old ≡ edges_in edges.new ++ rest self.new }
+        ensures end { edges_in edges.new ≡ [] → rest self.old ≡ [] }
+        ensures least { steps.old + length (edges_in edges.new) ≤ steps.new }
+        ensures free { edges_in edges.new ≡ [] → steps.new ≡ steps.old }
         ensures paid { steps.new + allowance self.new ≤ steps.old + allowance self.old }
     {
         let Some(_p) = self.ring.peek() else {
-            return Several::none();
+            edges.clear();
+            return;
         };
-        let edges = self.ring.several(steps);
+        self.ring.several(edges, steps);
         settle(self.served, &mut self.ring, &mut self.hole, self.end, steps);
-        edges
     }
 }

@@ -3,35 +3,36 @@
 ghost use Rattle.std.specs.Prelude.{◌≤◌};
 ghost use Rattle.navigate.specs.declared.kept_stops.TheConstants.{KEPT};
 
-use turan_code::Stop;
+use crate::ranked::RankedEdge;
 
 /// So many positions are kept.
-const KEPT: usize = 16;
+const KEPT: usize = 8;
 
 /// What stands at a position, without the next one.
 #[derive(Clone, Copy)]
 pub(crate) struct KeptStop {
     at: u32,
+    /// The position itself, or its mate where the walk goes over its edge.
     pub(crate) over: u32,
-    pub(crate) edge: u32,
-    pub(crate) is_first: bool,
+    pub(crate) edge: RankedEdge,
 }
 
 impl KeptStop {
     ghost use Rattle.std.specs.Prelude.{Bool, IfSome};
-    ghost use Rattle.code_laws.specs.Code.{Code};
-    ghost use Rattle.navigate.specs.KeptStops.{IsStop, IsKept};
+    ghost use Rattle.id_names.specs.RisingNames.{RisingNames};
+    ghost use Rattle.file_laws.specs.Contents.{Contents};
+    ghost use Rattle.navigate.specs.KeptStops.{IsSeen, IsKept};
 
-    /// What is kept of this stop at a position. None of one that is too far on.
+    /// What is kept of a position. None where it is too far on.
     #[inline(always)]
-    fn of(at: usize, stop: Stop) -> Option<KeptStop>
-        ensures { (code : Code) → (kind : Bool) → IsStop code kind at stop → IfSome result (IsKept code kind) }
+    fn of(at: usize, over: usize, edge: RankedEdge) -> Option<KeptStop>
+        ensures { (names : RisingNames) → (contents : Contents) → (kind : Bool)
+            → IsSeen names contents kind at over edge → IfSome result (IsKept names contents kind) }
     {
         Some(KeptStop {
             at: u32::try_from(at).ok()?,
-            over: u32::try_from(stop.over).ok()?,
-            edge: stop.edge,
-            is_first: stop.is_first,
+            over: u32::try_from(over).ok()?,
+            edge,
         })
     }
 }
@@ -47,20 +48,23 @@ pub(crate) struct KeptStops {
 }
 
 impl KeptStops {
-    ghost use Rattle.std.specs.Prelude.{Bool, ℕ, ◌≡◌, IfSome};
-    ghost use Rattle.code_laws.specs.Code.{Code};
-    ghost use Rattle.navigate.specs.KeptStops.{IsStop, IsKept, AreKept};
+    ghost use Rattle.std.specs.Prelude.{Bool, ◌≡◌, IfSome};
+    ghost use Rattle.id_names.specs.RisingNames.{RisingNames};
+    ghost use Rattle.file_laws.specs.Contents.{Contents};
+    ghost use Rattle.navigate.specs.KeptStops.{IsSeen, IsKept, AreKept};
 
     /// Nothing yet.
     pub(crate) fn none() -> KeptStops
-        ensures { (code : Code) → (kind : Bool) → AreKept code kind result }
+        ensures { (names : RisingNames) → (contents : Contents) → (kind : Bool) → AreKept names contents kind result }
     {
         KeptStops {
             stops: [KeptStop {
                 at: 0,
                 over: 0,
-                edge: 0,
-                is_first: false,
+                edge: RankedEdge {
+                    rank: 0,
+                    is_forward: false,
+                },
             }; KEPT],
             count: 0,
             turn: 0,
@@ -69,11 +73,11 @@ impl KeptStops {
 
     /// Keeps what stands at a position, where there is room for it.
     #[inline(always)]
-    pub(crate) fn keep(&mut self, at: usize, stop: Stop)
-        ensures { (code : Code) → (kind : Bool) → AreKept code kind self.old → IsStop code kind at stop
-            → AreKept code kind self.new }
+    pub(crate) fn keep(&mut self, at: usize, over: usize, edge: RankedEdge)
+        ensures { (names : RisingNames) → (contents : Contents) → (kind : Bool) → AreKept names contents kind self.old
+            → IsSeen names contents kind at over edge → AreKept names contents kind self.new }
     {
-        let Some(kept) = KeptStop::of(at, stop) else {
+        let Some(kept) = KeptStop::of(at, over, edge) else {
             return;
         };
         if self.count < KEPT {
@@ -86,8 +90,10 @@ impl KeptStops {
     /// What stands at a position, if it is the one whose turn it is.
     #[inline(always)]
     pub(crate) fn pass(&mut self, at: usize) -> Option<KeptStop>
-        ensures kept { (code : Code) → (kind : Bool) → AreKept code kind self.old → AreKept code kind self.new }
-        ensures stop { (code : Code) → (kind : Bool) → AreKept code kind self.old → IfSome result (IsKept code kind) }
+        ensures kept { (names : RisingNames) → (contents : Contents) → (kind : Bool)
+            → AreKept names contents kind self.old → AreKept names contents kind self.new }
+        ensures stop { (names : RisingNames) → (contents : Contents) → (kind : Bool)
+            → AreKept names contents kind self.old → IfSome result (IsKept names contents kind) }
         ensures at { IfSome result (λ kept. kept.at ≡ at) }
     {
         if self.turn >= self.count {
@@ -107,7 +113,8 @@ impl KeptStops {
 
     /// Makes it the turn of a position that is kept, or of the first one.
     pub(crate) fn turn_to(&mut self, at: usize)
-        ensures { (code : Code) → (kind : Bool) → AreKept code kind self.old → AreKept code kind self.new }
+        ensures { (names : RisingNames) → (contents : Contents) → (kind : Bool)
+            → AreKept names contents kind self.old → AreKept names contents kind self.new }
     {
         self.turn = 0;
         for place in 0..self.count {

@@ -1,11 +1,12 @@
 //! Walks round an orbit of positions, by signed edges.
 
-ghost use Rattle.std.specs.Prelude.{◌<◌, length};
+ghost use Rattle.std.specs.Prelude.{◌≡◌, ◌<◌, length};
+ghost use Rattle.id_names.specs.Views.{ids_of, names_in};
 ghost use Rattle.pemb_file.specs.Served.{contents_of_view};
 ghost use Rattle.navigate.specs.KeptStops.{AreKept};
 
+use crate::directed::with_direction;
 use crate::kept_stops::KeptStops;
-use crate::positions;
 use crate::ranked::{RankedEdge, ranked_with};
 use crate::ranked_edges::{RankedEdges, edges_of};
 use crate::several::Several;
@@ -14,12 +15,20 @@ use id_names::NamesView;
 use pemb_file::Served;
 use std::sync::ledger::Ledger;
 use topo_base::Signed;
-use turan_code::Stop;
+
+/// What a walk finds at a position: the signed edge there, by its rank, and the position after it.
+#[derive(Clone, Copy)]
+struct RankedStop {
+    edge: RankedEdge,
+    next: usize,
+}
 
 /// A walk round a node or a ring: what is left of it, from a position on until it comes back to the first.
 #[derive(Clone, Copy)]
 pub struct OrbitWalk<'a> {
     served: Served<'a>,
+    /// The ids of the edges by number.
+    edges: &'a NamesView<'a>,
     /// Whether it goes round a node.
     kind: bool,
     /// The position at which it ends.
@@ -33,7 +42,8 @@ pub struct OrbitWalk<'a> {
     /// What stands at the first positions that it came by.
     kept: KeptStops,
     ghost within: { 0 < left → at < length (contents_of_view served).code.a },
-    ghost right: { AreKept (contents_of_view served).code kind kept },
+    ghost ids: { ids_of edges.now ≡ (contents_of_view served).edges },
+    ghost right: { AreKept (names_in edges.now) (contents_of_view served) kind kept },
 }
 
 /// The signed edges that leave a node, clockwise.
@@ -50,9 +60,8 @@ impl<'a> OrbitWalk<'a> {
     ghost use Rattle.file_laws.specs.MapOfFile.{signed_at};
     ghost use Rattle.pemb_file.specs.Served.{contents_of_view};
     ghost use Rattle.navigate.specs.Bound.{line_digits};
-    ghost use Rattle.navigate.specs.KeptStops.{IsStop};
-    ghost use Rattle.id_names.specs.Views.{ids_of, names_in};
-    ghost use Rattle.navigate.specs.OrbitWalk.{contents_in, positions_left, rest, price, rank_price, allowance};
+    ghost use Rattle.id_names.specs.Views.{names_in};
+    ghost use Rattle.navigate.specs.OrbitWalk.{contents_in, edge_names, positions_left, rest, price, rank_price, allowance};
     ghost use Rattle.navigate.specs.Ranked.{IsRankOf, AreRanksOf};
     ghost use Rattle.navigate.specs.Several.{edges_in};
 
@@ -65,6 +74,7 @@ impl<'a> OrbitWalk<'a> {
     {
         OrbitWalk {
             served,
+            edges: served.edges(),
             kind,
             first: p,
             at: p,
@@ -94,6 +104,7 @@ impl<'a> OrbitWalk<'a> {
     {
         OrbitWalk {
             served,
+            edges: served.edges(),
             kind: false,
             first: 0,
             at: 0,
@@ -120,6 +131,13 @@ impl<'a> OrbitWalk<'a> {
         self.peek().is_none()
     }
 
+    /// The ids of the edges by number, of which it finds the ranks.
+    pub(crate) fn edges(&self) -> &'a NamesView<'a>
+        ensures { names_in result.now ≡ edge_names self.now }
+    {
+        self.edges
+    }
+
     /// The component in which the next position may be.
     #[inline]
     pub(crate) fn component(&self) -> usize
@@ -135,6 +153,7 @@ impl<'a> OrbitWalk<'a> {
         requires within { next < length (contents_in self.old).code.a }
         requires next { next ≡ codes.step (contents_in self.old).code self.old.kind self.old.at }
         ensures contents { contents_in self.new ≡ contents_in self.old }
+        ensures names { edge_names self.new ≡ edge_names self.old }
         ensures kind { self.new.kind ≡ self.old.kind }
         ensures left { positions_left self.old ≡ self.old.at ∷ positions_left self.new }
     {
@@ -187,32 +206,43 @@ impl<'a> OrbitWalk<'a> {
         Some(p)
     }
 
-    /// What stands at the next position.
+    /// The signed edge at the next position by its rank among the names of the edges, and the position after that one.
     #[inline(always)]
-    fn look<C: Ledger>(&mut self, steps: &mut Steps<C>) -> Stop
+    fn look<C: Ledger>(&mut self, steps: &mut Steps<C>) -> RankedStop
         requires { 0 < self.old.left }
         ensures same { (self.new.at ≡ self.old.at) × (self.new.left ≡ self.old.left) }
         ensures positions { positions_left self.new ≡ positions_left self.old }
         ensures contents { contents_in self.new ≡ contents_in self.old }
+        ensures names { edge_names self.new ≡ edge_names self.old }
         ensures kind { self.new.kind ≡ self.old.kind }
-        ensures stop { IsStop (contents_in self.old).code self.old.kind self.old.at result }
+        ensures edge { IsRankOf (edge_names self.old) result.edge (signed_at (contents_in self.old) self.old.at) }
+        ensures next { result.next ≡ codes.step (contents_in self.old).code self.old.kind self.old.at }
+        ensures within { result.next < length (contents_in self.old).code.a }
         ensures some_steps { steps.old + 1 ≤ steps.new }
-        ensures cost { steps.new ≤ steps.old + (12 * line_digits (contents_in self.old) + 115) }
+        ensures cost { steps.new ≤ steps.old + rank_price (contents_in self.old) }
     {
         let p = self.at;
         let code = self.served.code();
         if let Some(kept) = self.kept.pass(p) {
-            let over = kept.over as usize;
-            return Stop {
+            let next = code.after(kept.over as usize, &mut self.component, steps);
+            return RankedStop {
                 edge: kept.edge,
-                is_first: kept.is_first,
-                over,
-                next: code.after(over, &mut self.component, steps),
+                next,
             };
         }
         let stop = code.stop(self.kind, p, &mut self.component, steps);
-        self.kept.keep(p, stop);
-        stop
+        let edge = ranked_with(
+            self.served,
+            self.edges,
+            stop.edge as usize,
+            stop.is_first,
+            steps,
+        );
+        self.kept.keep(p, stop.over, edge);
+        RankedStop {
+            edge,
+            next: stop.next,
+        }
     }
 
     /// The next position and its signed edge, or None at the end.
@@ -231,25 +261,22 @@ impl<'a> OrbitWalk<'a> {
             return None;
         }
         let p = self.at;
+        let names = self.edges;
         let stop = self.look(steps);
-        let edge = positions::edge_with(self.served, stop.edge as usize, stop.is_first, steps);
+        let id = names.id_at(stop.edge.rank as usize, steps);
         self.go_on(stop.next);
-        Some((p, edge))
+        Some((p, with_direction(id, stop.edge.is_forward)))
     }
 
-    /// The next position and the rank of its signed edge among these names of the edges, or None at the end.
+    /// The next position and the rank of its signed edge among the names of the edges, or None at the end.
     #[inline(always)]
-    pub(crate) fn ranked<C: Ledger>(
-        &mut self,
-        edges: &NamesView<'_>,
-        steps: &mut Steps<C>,
-    ) -> Option<(usize, RankedEdge)>
-        requires { ids_of edges.now ≡ (contents_in self.old).edges }
+    pub(crate) fn ranked<C: Ledger>(&mut self, steps: &mut Steps<C>) -> Option<(usize, RankedEdge)>
         ensures contents { contents_in self.new ≡ contents_in self.old }
+        ensures names { edge_names self.new ≡ edge_names self.old }
         ensures kind { self.new.kind ≡ self.old.kind }
         ensures next { MatchOption result (positions_left self.old ≡ [])
             (λ found. positions_left self.old ≡ found.0 ∷ positions_left self.new) }
-        ensures edge { IfSome result (λ found. IsRankOf (names_in edges.now) found.1
+        ensures edge { IfSome result (λ found. IsRankOf (edge_names self.old) found.1
             (signed_at (contents_in self.old) found.0)) }
         ensures within { MatchOption result (positions_left self.new ≡ [])
             (λ found. found.0 < length (contents_in self.old).code.a) }
@@ -261,9 +288,8 @@ impl<'a> OrbitWalk<'a> {
         }
         let p = self.at;
         let stop = self.look(steps);
-        let edge = ranked_with(self.served, edges, stop.edge as usize, stop.is_first, steps);
         self.go_on(stop.next);
-        Some((p, edge))
+        Some((p, stop.edge))
     }
 
     /// The next signed edge, or None at the end.
@@ -280,45 +306,41 @@ impl<'a> OrbitWalk<'a> {
         }
     }
 
-    /// The signed edges at the next positions by their ranks among these names of the edges, as many as are given at
-    /// once, or fewer: none at the end alone.
+    /// Puts down the signed edges at the next positions by their ranks among the names of the edges, as many as are given
+    /// at once, or fewer: none at the end alone.
     #[inline(always)]
-    fn several_ranked<C: Ledger>(
-        &mut self,
-        edges: &NamesView<'_>,
-        steps: &mut Steps<C>,
-    ) -> RankedEdges
-        requires { ids_of edges.now ≡ (contents_in self.old).edges }
+    fn several_ranked<C: Ledger>(&mut self, ranks: &mut RankedEdges, steps: &mut Steps<C>)
+        requires { ranks.old.items ≡ [] }
         ensures contents { contents_in self.new ≡ contents_in self.old }
         ensures gives { (given : List ℤ) × (rest self.old ≡ given ++ rest self.new)
-            × AreRanksOf (names_in edges.now) result.items given }
-        ensures end { result.items ≡ [] → rest self.old ≡ [] }
-        ensures least { steps.old + length result.items ≤ steps.new }
-        ensures free { result.items ≡ [] → steps.new ≡ steps.old }
-        ensures cost { steps.new ≤ steps.old + rank_price (contents_in self.old) * length result.items }
+            × AreRanksOf (edge_names self.old) ranks.new.items given }
+        ensures end { ranks.new.items ≡ [] → rest self.old ≡ [] }
+        ensures least { steps.old + length ranks.new.items ≤ steps.new }
+        ensures free { ranks.new.items ≡ [] → steps.new ≡ steps.old }
+        ensures cost { steps.new ≤ steps.old + rank_price (contents_in self.old) * length ranks.new.items }
     {
-        let mut ranks = RankedEdges::new();
         while !ranks.is_full() {
-            match self.ranked(edges, steps) {
+            match self.ranked(steps) {
                 Some(found) => ranks.push(found.1),
-                None => return ranks,
+                None => return,
             }
         }
-        ranks
     }
 
-    /// The next signed edges, as many as are given at once, or fewer: none at the end alone.
+    /// Puts down the next signed edges, in the place of those that stood there: as many as are given at once, or fewer,
+    /// and none at the end alone.
     #[inline(always)]
-    pub fn several<C: Ledger>(&mut self, steps: &mut Steps<C>) -> Several
+    pub fn several<C: Ledger>(&mut self, edges: &mut Several, steps: &mut Steps<C>)
         ensures contents { contents_in self.new ≡ contents_in self.old }
-        ensures gives { rest self.old ≡ edges_in result ++ rest self.new }
-        ensures end { edges_in result ≡ [] → rest self.old ≡ [] }
-        ensures least { steps.old + length (edges_in result) ≤ steps.new }
-        ensures free { edges_in result ≡ [] → steps.new ≡ steps.old }
+        ensures gives { rest self.old ≡ edges_in edges.new ++ rest self.new }
+        ensures end { edges_in edges.new ≡ [] → rest self.old ≡ [] }
+        ensures least { steps.old + length (edges_in edges.new) ≤ steps.new }
+        ensures free { edges_in edges.new ≡ [] → steps.new ≡ steps.old }
         ensures paid { steps.new + allowance self.new ≤ steps.old + allowance self.old }
     {
-        let edges = self.served.edges();
-        let ranks = self.several_ranked(edges, steps);
-        edges_of(edges, ranks.as_slice(), steps)
+        let names = self.edges;
+        let mut ranks = RankedEdges::new();
+        self.several_ranked(&mut ranks, steps);
+        edges_of(names, ranks.as_slice(), edges, steps);
     }
 }

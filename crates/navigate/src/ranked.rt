@@ -13,10 +13,11 @@ use id_names::NamesView;
 use pemb_file::Served;
 use std::sync::ledger::Ledger;
 
-/// A signed edge by the rank of its edge's id: its place in the list of ids that rises.
+/// A signed edge by the rank of its edge's id: its place in the list of ids that rises. No map has more edges than a rank
+/// has room for.
 #[derive(Clone, Copy, Default)]
 pub(crate) struct RankedEdge {
-    pub(crate) rank: usize,
+    pub(crate) rank: u32,
     pub(crate) is_forward: bool,
 }
 
@@ -49,8 +50,9 @@ pub(crate) fn ranked_with<C: Ledger>(
     ensures cost { steps.new ≤ steps.old + 3 }
 {
     let forward = served.forward(number, steps);
+    let _count = edges.count();
     RankedEdge {
-        rank: edges.rank_of(number, steps),
+        rank: edges.rank_of(number, steps) as u32,
         is_forward: first == forward,
     }
 }

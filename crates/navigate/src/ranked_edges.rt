@@ -18,23 +18,24 @@ use std::sync::ledger::Ledger;
 /// The signed edges at some positions by the ranks of their ids, one after the other.
 pub(crate) type RankedEdges = ArrayVec<RankedEdge, SEVERAL>;
 
-/// The signed edges of these ranks among the names. No read of an id waits for that of another.
+/// Puts down the signed edges of these ranks among the names, in the place of those that stood there. No read of an id
+/// waits for that of another.
 #[inline(always)]
 pub(crate) fn edges_of<C: Ledger>(
     names: &NamesView<'_>,
     ranks: &[RankedEdge],
+    edges: &mut Several,
     steps: &mut Steps<C>,
-) -> Several
+)
     requires few { length ranks.now ≤ SEVERAL }
     requires ranks { (edges : List ℤ) × AreRanksOf (names_in names.now) ranks.now edges }
-    ensures edges { (edges : List ℤ) → AreRanksOf (names_in names.now) ranks.now edges → edges_in result ≡ edges }
+    ensures edges { (given : List ℤ) → AreRanksOf (names_in names.now) ranks.now given → edges_in edges.new ≡ given }
     ensures grows { steps.old ≤ steps.new }
     ensures cost { steps.new ≤ steps.old + (3 * digits (length (ids_of names.now) + 2) + 18) * length ranks.now }
 {
-    let mut edges = Several::none();
+    edges.clear();
     for ranked in ranks {
-        let id = names.id_at(ranked.rank, steps);
+        let id = names.id_at(ranked.rank as usize, steps);
         edges.push(with_direction(id, ranked.is_forward));
     }
-    edges
 }

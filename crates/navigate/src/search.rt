@@ -28,13 +28,13 @@ pub(crate) fn begun_at_smallest<'a, C: Ledger>(
     ensures cost { steps.new ≤ steps.old + rank_price (contents_of_view served.entry)
         * length (orbit (contents_of_view served.entry).code kind p) }
 {
-    let edges = served.edges();
-    let _count = edges.count();
     let mut walk = OrbitWalk::from(served, kind, p, 0);
-    let Some(mut best) = walk.ranked(edges, steps) else {
+    let edges = walk.edges();
+    let _count = edges.count();
+    let Some(mut best) = walk.ranked(steps) else {
         unreachable!()
     };
-    while let Some(found) = walk.ranked(edges, steps) {
+    while let Some(found) = walk.ranked(steps) {
         if found.1.is_less(best.1) {
             best = found;
         }

@@ -23,13 +23,20 @@ impl Several {
     ghost use Rattle.navigate.specs.declared.several.TheConstants.{SEVERAL};
 
     /// None yet.
-    pub(crate) fn none() -> Several
+    pub fn none() -> Several
         ensures { edges_in result ≡ [] }
     {
         Several {
             edges: [with_direction(1, true); SEVERAL],
             count: 0,
         }
+    }
+
+    /// None again.
+    pub(crate) fn clear(&mut self)
+        ensures { edges_in self.new ≡ [] }
+    {
+        self.count = 0;
     }
 
     /// One more behind them.

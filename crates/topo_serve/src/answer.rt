@@ -44,7 +44,8 @@ fn answer_node<K: Sink, C: Ledger>(
     ensures grows { steps.old ≤ steps.new }
     ensures paid { steps.new ≤ steps.old + words_of_query (served_map served.now) (script.Query.Node node.0) }
 {
-    list_known(node_walk(*served, node, steps), out, text, steps)
+    let mut walk = node_walk(*served, node, steps);
+    list_known(&mut walk, out, text, steps)
 }
 
 /// The signed edges of a ring.
@@ -64,7 +65,8 @@ fn answer_ring<K: Sink, C: Ledger>(
     ensures grows { steps.old ≤ steps.new }
     ensures paid { steps.new ≤ steps.old + words_of_query (served_map served.now) (script.Query.Ring edge) }
 {
-    list_known(ring_walk(*served, edge, steps), out, text, steps)
+    let mut walk = ring_walk(*served, edge, steps);
+    list_known(&mut walk, out, text, steps)
 }
 
 /// The signed edge that follows.
@@ -150,7 +152,8 @@ fn answer_face<K: Sink, C: Ledger>(
     ensures grows { steps.old ≤ steps.new }
     ensures paid { steps.new ≤ steps.old + words_of_query (served_map served.now) (script.Query.Face face.0) }
 {
-    list_known(face_walk(*served, face, steps), out, text, steps)
+    let mut walk = face_walk(*served, face, steps);
+    list_known(&mut walk, out, text, steps)
 }
 
 /// The components and isolated nodes in a face.
@@ -170,7 +173,8 @@ fn answer_islands<K: Sink, C: Ledger>(
     ensures grows { steps.old ≤ steps.new }
     ensures paid { steps.new ≤ steps.old + words_of_query (served_map served.now) (script.Query.Islands face.0) }
 {
-    list_known(island_walk(*served, face, steps), out, text, steps)
+    let mut walk = island_walk(*served, face, steps);
+    list_known(&mut walk, out, text, steps)
 }
 
 /// The regions that a face is in.
@@ -190,7 +194,8 @@ fn answer_regions<K: Sink, C: Ledger>(
     ensures grows { steps.old ≤ steps.new }
     ensures paid { steps.new ≤ steps.old + words_of_query (served_map served.now) (script.Query.Regions face.0) }
 {
-    list_known(region_walk(*served, face, steps), out, text, steps)
+    let mut walk = region_walk(*served, face, steps);
+    list_known(&mut walk, out, text, steps)
 }
 
 /// The face that contains a node or its component.

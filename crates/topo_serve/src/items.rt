@@ -68,21 +68,21 @@ fn list<W: Items, K: Sink, C: Ledger>(
 }
 
 /// The items of a walk, or that what is asked for is unknown where there is none.
-pub(crate) fn list_known<W: Items + Drop, K: Sink, C: Ledger>(
-    walk: Option<W>,
+pub(crate) fn list_known<W: Items, K: Sink, C: Ledger>(
+    walk: &mut Option<W>,
     out: &mut K,
     text: &mut Gathered,
     steps: &mut Steps<C>,
 ) -> Result<(), Failed>
     ensures writes { Writes result (out_at (K.held out.old) (K.faults out.old) text.old.items)
-        (out_at (K.held out.new) (K.faults out.new) text.new.items) (after_colon (option_map W.items walk)) }
-    ensures least { OnOk result (MatchOption walk (steps.old ≤ steps.new)
+        (out_at (K.held out.new) (K.faults out.new) text.new.items) (after_colon (option_map W.items walk.old)) }
+    ensures least { OnOk result (MatchOption walk.old (steps.old ≤ steps.new)
         (λ w. steps.old + length (W.items w) ≤ steps.new)) }
     ensures grows { steps.old ≤ steps.new }
-    ensures paid { MatchOption walk (steps.new ≡ steps.old) (λ w. steps.new ≤ steps.old + W.allowance w) }
+    ensures paid { MatchOption walk.old (steps.new ≡ steps.old) (λ w. steps.new ≤ steps.old + W.allowance w) }
 {
     match walk {
-        Some(mut walk) => list(&mut walk, out, text, steps),
+        Some(walk) => list(walk, out, text, steps),
         None => gather(out, text, b" unknown"),
     }
 }

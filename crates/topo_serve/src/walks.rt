@@ -9,7 +9,7 @@ use crate::item::Item;
 use crate::items::Items;
 use crate::next_items::NextItems;
 use bit_words::Steps;
-use navigate::{FaceWalk, Island, IslandWalk, NodeWalk, RegionWalk};
+use navigate::{FaceWalk, Island, IslandWalk, NodeWalk, RegionWalk, Several};
 use std::sync::ledger::Ledger;
 
 impl Items for NodeWalk<'_> {
@@ -24,7 +24,9 @@ impl Items for NodeWalk<'_> {
         if self.is_over() {
             return NextItems::End;
         }
-        NextItems::Edges(self.several(steps))
+        let mut edges = Several::none();
+        self.several(&mut edges, steps);
+        NextItems::Edges(edges)
     }
 }
 
@@ -40,7 +42,9 @@ impl Items for FaceWalk<'_> {
         if self.is_over() {
             return NextItems::End;
         }
-        NextItems::Edges(self.several(steps))
+        let mut edges = Several::none();
+        self.several(&mut edges, steps);
+        NextItems::Edges(edges)
     }
 }
 

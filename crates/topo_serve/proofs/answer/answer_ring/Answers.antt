@@ -9,12 +9,12 @@ use Rattle.topo_serve.proofs.answer.answer_ring.Goals as goal
 
 pub returns-clause-writes : goal.returns-clause-writes
 returns-clause-writes g c =
-    same_bytes _ _ _ _ _ (ap after_colon (walk_known c.ring_walk.result (λ w. map Item.Signed_edge (orbits.rest w)) _ _ c.ring_walk.ensures.known (as_items c.ring_walk.result orbits.rest Item.Signed_edge _ c.ring_walk.ensures.list))) c.list_known.ensures.writes
+    same_bytes _ _ _ _ _ (ap after_colon (walk_known c.ring_walk-walk.result (λ w. map Item.Signed_edge (orbits.rest w)) _ _ c.ring_walk-walk.ensures.known (as_items c.ring_walk-walk.result orbits.rest Item.Signed_edge _ c.ring_walk-walk.ensures.list))) c.list_known.ensures.writes
 
 pub returns-clause-least : goal.returns-clause-least
 returns-clause-least g c =
-    least_known _ c.ring_walk.result (λ w. map Item.Signed_edge (orbits.rest w)) _ _ _ _ (walk_known c.ring_walk.result (λ w. map Item.Signed_edge (orbits.rest w)) _ _ c.ring_walk.ensures.known (as_items c.ring_walk.result orbits.rest Item.Signed_edge _ c.ring_walk.ensures.list)) c.ring_walk.ensures.grows c.list_known.ensures.least
+    least_known _ c.ring_walk-walk.result (λ w. map Item.Signed_edge (orbits.rest w)) _ _ _ _ (walk_known c.ring_walk-walk.result (λ w. map Item.Signed_edge (orbits.rest w)) _ _ c.ring_walk-walk.ensures.known (as_items c.ring_walk-walk.result orbits.rest Item.Signed_edge _ c.ring_walk-walk.ensures.list)) c.ring_walk-walk.ensures.grows c.list_known.ensures.least
 
 pub returns-clause-paid : goal.returns-clause-paid
 returns-clause-paid g c =
-    paid_round (served_map c.args.served.now) c.ring_walk.result orbits.rest orbits.allowance Item.Signed_edge _ _ _ _ _ c.ring_walk.ensures.known c.ring_walk.ensures.list c.ring_walk.ensures.paid c.list_known.ensures.paid
+    paid_round (served_map c.args.served.now) c.ring_walk-walk.result orbits.rest orbits.allowance Item.Signed_edge _ _ _ _ _ c.ring_walk-walk.ensures.known c.ring_walk-walk.ensures.list c.ring_walk-walk.ensures.paid c.list_known.ensures.paid

@@ -11,18 +11,18 @@ returns-in_default-clause-end g c = λ _. face_rest-none c.args.self.now (face_e
 pub returns-clause-gives : goal.returns-clause-gives
 unfolding face_positions rest
 returns-clause-gives g c =
-    let s = c.several-edges.ensures in
-    face_several c.args.self.now (edges_in c.several-edges.result) c.several-edges.new.self _ s.contents s.gives c.settle.ensures.positions
+    let s = c.several.ensures in
+    face_several c.args.self.now (edges_in c.several.new.edges) c.several.new.self _ s.contents s.gives c.settle.ensures.positions
 
 pub returns-clause-end : goal.returns-clause-end
 returns-clause-end g c = λ e.
-    let some = some_edges c.args.self.now.ring _ _ (edges_in c.several-edges.result) c.in-Some.ensures.next c.several-edges.ensures.end in
+    let some = some_edges c.args.self.now.ring _ _ (edges_in c.several.new.edges) c.in-Some.ensures.next c.several.ensures.end in
     let n = ap length e in
     absurd (omega (arith, n, some))
 
 pub returns-clause-free : goal.returns-clause-free
 returns-clause-free g c = λ e.
-    let some = some_edges c.args.self.now.ring _ _ (edges_in c.several-edges.result) c.in-Some.ensures.next c.several-edges.ensures.end in
+    let some = some_edges c.args.self.now.ring _ _ (edges_in c.several.new.edges) c.in-Some.ensures.next c.several.ensures.end in
     let n = ap length e in
     absurd (omega (arith, n, some))
 
@@ -30,8 +30,8 @@ pub returns-clause-paid : goal.returns-clause-paid
 unfolding face_positions rest allowance
 returns-clause-paid g c =
     let w = c.args.self.now in
-    let s = c.several-edges.ensures in
-    let edges = edges_in c.several-edges.result in
+    let s = c.several.ensures in
+    let edges = edges_in c.several.new.edges in
     let some = some_edges w.ring _ _ edges c.in-Some.ensures.next s.end in
-    let left = face_several w edges c.several-edges.new.self _ s.contents s.gives c.settle.ensures.positions in
-    several_paid w edges _ c.several-edges.new.self c.args.steps.now c.several-edges.new.steps c.settle.new.steps s.contents s.gives left some s.paid c.settle.ensures.cost
+    let left = face_several w edges c.several.new.self _ s.contents s.gives c.settle.ensures.positions in
+    several_paid w edges _ c.several.new.self c.args.steps.now c.several.new.steps c.settle.new.steps s.contents s.gives left some s.paid c.settle.ensures.cost

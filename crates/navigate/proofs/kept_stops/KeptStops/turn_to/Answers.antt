@@ -2,4 +2,4 @@ use Rattle.navigate.proofs.KeptLaws.{same_stops}
 use Rattle.navigate.proofs.kept_stops.KeptStops.turn_to.Goals as goal
 
 pub returns : goal.returns
-returns c code kind are = same_stops code kind _ _ _ _ c.loop-place.invariant.stops c.loop-place.invariant.count are
+returns c names contents kind are = same_stops names contents kind _ _ _ _ c.loop-place.invariant.stops c.loop-place.invariant.count are

@@ -1,11 +1,11 @@
 use Rattle.std.proofs.Common.{ap, ◌∙◌, length}
 use Rattle.code_laws.specs.Code.{Code, step}
 use Rattle.code_laws.specs.Orbits.{walk}
-use Rattle.navigate.specs.OrbitWalk.{contents_in, positions_left}
+use Rattle.navigate.specs.OrbitWalk.{contents_in, edge_names, positions_left}
 use Rattle.navigate.proofs.orbit_walk.OrbitWalk.begin_at.Goals as goal
 
 pub invariant_of-self : goal.invariant_of-self
-invariant_of-self c = let w = c.args.self.now in record { within = λ _. c.requires; right = c.turn_to.ensures (contents_in w).code w.kind w.right }
+invariant_of-self c = let w = c.args.self.now in record { within = λ _. c.requires; ids = w.ids; right = c.turn_to.ensures (edge_names w) (contents_in w) w.kind w.right }
 
 pub returns-clause-positions : goal.returns-clause-positions
 unfolding positions_left
