@@ -24,7 +24,7 @@ pub(crate) struct RisingIds<'a> {
 }
 
 impl<'a> RisingIds<'a> {
-    ghost use Rattle.std.specs.Prelude.{ℕ, ◌≡◌, ◌<◌, ◌≤◌, ◌+◌, ◌*◌, length, true, Some, IsTrue};
+    ghost use Rattle.std.specs.Prelude.{ℕ, ◌≡◌, ◌<◌, ◌≤◌, ◌+◌, ◌*◌, length, slice_index, true, Some, IsTrue};
     ghost use Rattle.bit_words.specs.Bits.{IsSelected};
     ghost use Rattle.bit_words.specs.Digits.{digits};
     ghost use Rattle.bit_words.specs.PackedView.{fields_of};
@@ -46,10 +46,34 @@ impl<'a> RisingIds<'a> {
         ensures some_steps { steps.old + 1 ≤ steps.new }
         ensures cost { steps.new ≤ steps.old + 3 * digits (length (fields_of self.now.lows) + 2) + 18 }
     {
+        let low = self.low(place, steps);
+        self.id_with(place, low, steps)
+    }
+
+    /// The low part of the id at this place.
+    #[inline(always)]
+    pub(crate) fn low<C: Ledger>(&self, place: usize, steps: &mut Steps<C>) -> u64
+        requires { place < length (fields_of self.now.lows) }
+        ensures low { result ≡ slice_index (fields_of self.now.lows) place }
+        ensures some_steps { steps.old + 1 ≤ steps.new }
+        ensures cost { steps.new ≤ steps.old + 2 }
+    {
+        self.lows.field(place, steps)
+    }
+
+    /// The id at this place, whose low part this is.
+    #[inline]
+    pub(crate) fn id_with<C: Ledger>(&self, place: usize, low: u64, steps: &mut Steps<C>) -> u64
+        requires within { place < length (fields_of self.now.lows) }
+        requires low { low ≡ slice_index (fields_of self.now.lows) place }
+        ensures id { result ≡ id_in self.now place }
+        ensures some_steps { steps.old + 1 ≤ steps.new }
+        ensures cost { steps.new ≤ steps.old + 3 * digits (length (fields_of self.now.lows) + 2) + 16 }
+    {
         let Some(one) = self.high.select1(place, steps) else {
             unreachable!()
         };
-        self.id_of_one(place, one, steps)
+        self.joined(place, one, low)
     }
 
     /// The id at this place, whose one in the high parts stands there.
@@ -60,8 +84,19 @@ impl<'a> RisingIds<'a> {
         ensures some_steps { steps.old + 1 ≤ steps.new }
         ensures cost { steps.new ≤ steps.old + 2 }
     {
+        let low = self.low(place, steps);
+        self.joined(place, one, low)
+    }
+
+    /// The id at this place, whose one in the high parts stands there and whose low part this is.
+    fn joined(&self, place: usize, one: usize, low: u64) -> u64
+        requires within { place < length (fields_of self.now.lows) }
+        requires selected { IsSelected true (counted self.now.high) place (Some one) }
+        requires low { low ≡ slice_index (fields_of self.now.lows) place }
+        ensures { result ≡ id_in self.now place }
+    {
         let high = (one - place) as u64;
-        (high << self.lows.width()) + self.lows.field(place, steps)
+        (high << self.lows.width()) + low
     }
 
     /// How many ids have a high part below this one.

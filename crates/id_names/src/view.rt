@@ -105,6 +105,30 @@ impl<'a> NamesView<'a> {
         self.ids.id(place, steps)
     }
 
+    /// The low part of the id at a place of that list, which `id_with` asks for: where the low parts at several places
+    /// are read before all else, none of these reads waits for another.
+    #[inline(always)]
+    pub fn low_at<C: Ledger>(&self, place: usize, steps: &mut Steps<C>) -> u64
+        requires { place < length (ids_of self.now) }
+        ensures low { result ≡ slice_index (names_in self.now).lows place }
+        ensures some_steps { steps.old + 1 ≤ steps.new }
+        ensures cost { steps.new ≤ steps.old + 2 }
+    {
+        self.ids.low(place, steps)
+    }
+
+    /// The id at a place of that list, whose low part this is.
+    #[inline]
+    pub fn id_with<C: Ledger>(&self, place: usize, low: u64, steps: &mut Steps<C>) -> IdNumber
+        requires within { place < length (ids_of self.now) }
+        requires low { low ≡ slice_index (names_in self.now).lows place }
+        ensures id { result ≡ id_at (names_in self.now) place }
+        ensures some_steps { steps.old + 1 ≤ steps.new }
+        ensures cost { steps.new ≤ steps.old + 3 * digits (length (ids_of self.now) + 2) + 16 }
+    {
+        self.ids.id_with(place, low, steps)
+    }
+
     /// The id of a number.
     #[inline]
     pub fn id_of<C: Ledger>(&self, number: usize, steps: &mut Steps<C>) -> IdNumber

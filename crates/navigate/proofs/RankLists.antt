@@ -1,13 +1,17 @@
 -- The signed edges of ranks, taken one by one.
-use Rattle.std.specs.Prelude.{neg_ℤ, IsTrue, if◌then◌else◌}
-use Rattle.std.proofs.Common.{◌≡◌, ◌≤◌, ℕ, ◌+◌, ◌*◌, suc, ℤ, pos, negsuc, List, [], ◌∷◌, ◌++◌, length, length-append, ap, sym, ◌∙◌, subst, refl, arith}
+use Rattle.std.specs.Prelude.{neg_ℤ, IsTrue, if◌then◌else◌, slice_index, slice_index_or}
+use Rattle.std.proofs.Common.{◌≡◌, ◌<◌, ◌≤◌, ℕ, zero, suc, ◌+◌, ◌*◌, ℤ, pos, negsuc, false, List, [], ◌∷◌, ◌++◌, map, drop, length, length-append, append_assoc, ap, sym, ◌∙◌, subst, refl, arith}
+use Rattle.std.proofs.lemmas.List.{drop_more, get_or-map}
 use Rattle.topo_base.specs.declared.id.TheConstants.{LARGEST_ID}
 use Rattle.id_names.specs.Names.{is_id}
 use Rattle.id_names.specs.RisingNames.{RisingNames, id_at}
 use Rattle.navigate.specs.OrbitWalk.{contents_in, rest, price, allowance}
-use Rattle.navigate.specs.Ranked.{IsRankOf, AreRanksOf}
+use Rattle.navigate.specs.Ranked.{IsRankOf, AreRanksOf, low_of}
 use Rattle.navigate.specs.declared.orbit_walk.OrbitWalk.{OrbitWalk}
 use Rattle.navigate.specs.declared.ranked.RankedEdge.{RankedEdge}
+
+abbrev pub no_rank : RankedEdge
+no_rank = record { rank = 0; is_forward = false }
 
 module _ (names : RisingNames) where
   -- with one more behind them
@@ -52,6 +56,28 @@ module _ (names : RisingNames) where
       first : (ds : List ℤ) → AreRanksOf names (r ∷ rest) ds → FirstRank r rest ds
       first [] same = absurd same
       first (d ∷ later) both = record { d = d; later = later; both = refl; is = both.0; are = both.1 }
+
+  -- the one at a place, and those behind it
+  pub this_rank : (rs : List RankedEdge) (k : ℕ) (es : List ℤ) → k < length rs → AreRanksOf names (drop k rs) es → FirstRank (slice_index_or rs k no_rank) (drop (k + 1) rs) es
+  this_rank rs k es l are = first_rank (drop k rs) (drop (k + 1) rs) (slice_index_or rs k no_rank) es (drop_more rs k no_rank l) are
+
+  -- those behind some of them
+  pub ranks_drop : (rs : List RankedEdge) (k : ℕ) (ds : List ℤ) → AreRanksOf names rs ds → (es : List ℤ) × AreRanksOf names (drop k rs) es
+  ranks_drop rs zero ds are = (ds, are)
+  ranks_drop [] (suc k) ds are = ([], tt)
+  ranks_drop (r ∷ rs) (suc k) [] are = absurd are
+  ranks_drop (r ∷ rs) (suc k) (d ∷ ds) are = ranks_drop rs k ds are.1
+
+  -- the low part of the id of one more
+  pub lows_more : (rs : List RankedEdge) (k : ℕ) (lows more : List ℕ) (low : ℕ) → k < length rs → map (low_of names) rs ≡ lows ++ map (low_of names) (drop k rs)
+      → low ≡ low_of names (slice_index_or rs k no_rank) → more ≡ lows ++ low ∷ [] → map (low_of names) rs ≡ more ++ map (low_of names) (drop (k + 1) rs)
+  lows_more rs k lows more low l all same e =
+      let next = ap (map (low_of names)) (drop_more rs k no_rank l) ∙ ap (λ x. x ∷ map (low_of names) (drop (k + 1) rs)) (sym same) in
+      all ∙ ap (λ x. lows ++ x) next ∙ sym (append_assoc lows (low ∷ []) (map (low_of names) (drop (k + 1) rs))) ∙ ap (λ x. x ++ map (low_of names) (drop (k + 1) rs)) (sym e)
+
+  -- the low part at a place is that of the rank there
+  pub low_at_place : (rs : List RankedEdge) (k : ℕ) (lows : List ℕ) → k < length rs → lows ≡ map (low_of names) rs → slice_index lows k ≡ low_of names (slice_index_or rs k no_rank)
+  low_at_place rs k lows l e = ap (λ xs. slice_index xs k) e ∙ get_or-map (low_of names) rs k no_rank 0 l
 
   -- the id at its rank is one
   pub rank_id : (r : RankedEdge) (d : ℤ) (id : ℕ) → IsRankOf names r d → id ≡ id_at names r.rank → IsTrue (is_id (LARGEST_ID + 1) id)

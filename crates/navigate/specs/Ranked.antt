@@ -1,5 +1,5 @@
 -- Signed edges by the places of their ids in the list of ids that rises.
-use Rattle.std.specs.Prelude.{⊤, ◌≡◌, ◌<◌, ◌+◌, ℤ, List, [], ◌∷◌, Bool, IsTrue, nat_lt, ◌==◌, ◌&&◌, ◌||◌, not, length}
+use Rattle.std.specs.Prelude.{⊤, ◌≡◌, ◌<◌, ◌+◌, ℕ, ℤ, List, [], ◌∷◌, Bool, IsTrue, nat_lt, ◌==◌, ◌&&◌, ◌||◌, not, length, slice_index}
 use Rattle.topo_base.specs.SignedEdge.{edge_of, is_forward}
 use Rattle.topo_base.specs.declared.id.TheConstants.{LARGEST_ID}
 use Rattle.id_names.specs.Names.{is_id}
@@ -19,6 +19,10 @@ AreRanksOf names [] [] = ⊤
 AreRanksOf names [] (d ∷ ds) = ⊥
 AreRanksOf names (r ∷ rs) [] = ⊥
 AreRanksOf names (r ∷ rs) (d ∷ ds) = IsRankOf names r d × AreRanksOf names rs ds
+
+-- the low part of the id at a rank
+abbrev pub low_of : RisingNames → RankedEdge → ℕ
+low_of names ranked = slice_index names.lows ranked.rank
 
 -- the order of signed edges, by their ranks
 abbrev pub ranks_before : RankedEdge → RankedEdge → Bool

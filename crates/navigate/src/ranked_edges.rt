@@ -1,9 +1,9 @@
 //! The edges at some positions of a walk, whose ids are read together.
 
-ghost use Rattle.std.specs.Prelude.{ℤ, List, ◌≡◌, ◌≤◌, ◌+◌, ◌*◌, length};
+ghost use Rattle.std.specs.Prelude.{ℤ, List, ◌≡◌, ◌≤◌, ◌+◌, ◌*◌, length, map};
 ghost use Rattle.bit_words.specs.Digits.{digits};
 ghost use Rattle.id_names.specs.Views.{ids_of, names_in};
-ghost use Rattle.navigate.specs.Ranked.{AreRanksOf};
+ghost use Rattle.navigate.specs.Ranked.{AreRanksOf, low_of};
 ghost use Rattle.navigate.specs.Several.{edges_in};
 ghost use Rattle.navigate.specs.declared.several.TheConstants.{SEVERAL};
 
@@ -18,8 +18,31 @@ use std::sync::ledger::Ledger;
 /// The signed edges at some positions by the ranks of their ids, one after the other.
 pub(crate) type RankedEdges = ArrayVec<RankedEdge, SEVERAL>;
 
-/// Puts down the signed edges of these ranks among the names, in the place of those that stood there. No read of an id
-/// waits for that of another.
+/// The low parts of some ids, one by one.
+type LowParts = ArrayVec<u64, SEVERAL>;
+
+/// The low parts of the ids at some ranks. No read of one waits for that of another.
+#[inline(always)]
+fn low_parts<C: Ledger>(
+    names: &NamesView<'_>,
+    ranks: &[RankedEdge],
+    steps: &mut Steps<C>,
+) -> LowParts
+    requires few { length ranks.now ≤ SEVERAL }
+    requires ranks { (edges : List ℤ) × AreRanksOf (names_in names.now) ranks.now edges }
+    ensures lows { result.items ≡ map (low_of (names_in names.now)) ranks.now }
+    ensures grows { steps.old ≤ steps.new }
+    ensures cost { steps.new ≤ steps.old + 2 * length ranks.now }
+{
+    let mut lows = LowParts::new();
+    for ranked in ranks {
+        lows.push(names.low_at(ranked.rank as usize, steps));
+    }
+    lows
+}
+
+/// Puts down the signed edges of these ranks among the names, in the place of those that stood there. The low parts of
+/// their ids, which stand far from one another, are read before all else.
 #[inline(always)]
 pub(crate) fn edges_of<C: Ledger>(
     names: &NamesView<'_>,
@@ -34,8 +57,10 @@ pub(crate) fn edges_of<C: Ledger>(
     ensures cost { steps.new ≤ steps.old + (3 * digits (length (ids_of names.now) + 2) + 18) * length ranks.now }
 {
     edges.clear();
-    for ranked in ranks {
-        let id = names.id_at(ranked.rank as usize, steps);
+    let lows = low_parts(names, ranks, steps);
+    for (place, ranked) in ranks.iter().enumerate() {
+        let low = lows.as_slice()[place];
+        let id = names.id_with(ranked.rank as usize, low, steps);
         edges.push(with_direction(id, ranked.is_forward));
     }
 }

@@ -5,10 +5,10 @@ use Rattle.navigate.specs.Several.{edges_in}
 use Rattle.navigate.specs.Ranked.{AreRanksOf}
 use Rattle.navigate.proofs.ranked_edges.edges_of.Given as goal
 
-abbrev pub invariant-loop-ranked : goal.invariant-loop-ranked
-invariant-loop-ranked g l = record {
-  left : (ds : List ℤ) → AreRanksOf (names_in l.names) l.ranks ds → (es : List ℤ) × (ds ≡ edges_in l.edges ++ es) × AreRanksOf (names_in l.names) (drop l.ranked-index l.ranks) es;
-  count : length (edges_in l.edges) ≡ l.ranked-index;
-  grows : l.fn.steps ≤ l.steps;
-  cost : l.steps ≤ l.fn.steps + (3 * digits (length (ids_of l.names) + 2) + 18) * l.ranked-index;
+abbrev pub invariant-loop-place : goal.invariant-loop-place
+invariant-loop-place g l = record {
+  left : (ds : List ℤ) → AreRanksOf (names_in l.names) l.ranks ds → (es : List ℤ) × (ds ≡ edges_in l.edges ++ es) × AreRanksOf (names_in l.names) (drop l.place l.ranks) es;
+  count : length (edges_in l.edges) ≡ l.place;
+  grows : l.initial.steps ≤ l.steps;
+  cost : l.steps ≤ l.initial.steps + (3 * digits (length (ids_of l.names) + 2) + 16) * l.place;
 }
