@@ -78,6 +78,10 @@ leaves_less cfg (c ∷ rest) s f p r e = elim (cases_Bool (is_end (step cfg s c)
       record { between = more.between; less = let le = more.less in omega arith }
 ]
 
+-- a record that was read leaves a state between two records
+pub read_between : (cfg : Config) (xs : List ℕ) (s : State) (f : List (List ℕ)) (p : List ℕ) (r : Read) → next_record cfg s f p xs ≡ Some r → ends_at_end r.1 ≡ false
+read_between cfg xs s f p r e = (leaves_less cfg xs s f p r e).between
+
 none_at_end : (cfg : Config) (s : State) → ends_at_end s ≡ false → next_record cfg s [] [] [] ≡ None
 unfolding next_record
 none_at_end cfg s h = rw h refl
@@ -104,7 +108,7 @@ same_records cfg (suc n) zero s xs h le1 le2 = absurd (omega arith)
 same_records cfg (suc n) (suc m) s xs h le1 le2 = same_next cfg n m (same_records cfg n m) s xs h le1 le2 (next_record cfg s [] [] xs) refl
 
 -- the records behind one that was read
-records_behind : (cfg : Config) (s : State) (xs : List ℕ) (r : Read) → ends_at_end s ≡ false → next_record cfg s [] [] xs ≡ Some r
+pub records_behind : (cfg : Config) (s : State) (xs : List ℕ) (r : Read) → ends_at_end s ≡ false → next_record cfg s [] [] xs ≡ Some r
     → records_from cfg (length xs + 1) s xs ≡ r.0 ∷ records_from cfg (length r.2 + 1) r.1 r.2
 unfolding records_from
 records_behind cfg s xs r h e =
@@ -112,7 +116,7 @@ records_behind cfg s xs r h e =
     let less = fewer cfg s xs r h e in
     rw (add-one, e) (ap (λ z. r.0 ∷ z) (same_records cfg (length xs) (length r.2 + 1) r.1 r.2 left.between less (omega arith)))
 
-no_records : (cfg : Config) (s : State) (xs : List ℕ) → next_record cfg s [] [] xs ≡ None → records_from cfg (length xs + 1) s xs ≡ []
+pub no_records : (cfg : Config) (s : State) (xs : List ℕ) → next_record cfg s [] [] xs ≡ None → records_from cfg (length xs + 1) s xs ≡ []
 unfolding records_from
 no_records cfg s xs e = rw (add-one, e) refl
 

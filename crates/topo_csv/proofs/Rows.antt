@@ -1,6 +1,6 @@
 -- The rows of lines, one by one.
-use Rattle.std.proofs.Common.{◌≡◌, ℕ, ◌+◌, List, [], ◌∷◌, ◌++◌, refl, sym, ap, append_assoc, arith, ◌≤◌, inl, inr, true, false}
-use Rattle.std.specs.Prelude.{nat_lt, Bool, Some, None, Result, Ok, Err, IfErr, IsErrAnd, OnOk, is_ok, length}
+use Rattle.std.proofs.Common.{◌≡◌, ℕ, ◌+◌, List, [], ◌∷◌, ◌++◌, refl, sym, ap, ◌∙◌, append_assoc, arith, ◌≤◌, inl, inr, true, false}
+use Rattle.std.specs.Prelude.{nat_lt, Bool, Some, None, Result, Ok, Err, IfErr, IsErrAnd, OnOk, is_ok, length, map}
 use Rattle.std.proofs.lemmas.List.{append-nil, length-append}
 use Rattle.std.proofs.lemmas.Bool.{cases_Bool}
 use Rattle.std.proofs.lemmas.Bool.Decides.{nat_tests}
@@ -13,6 +13,8 @@ use Rattle.topo_csv.specs.declared.fault.CsvFault.{CsvFault}
 use Rattle.topo_csv.specs.declared.fault.CsvFault.TheVariants as fault
 use Rattle.topo_csv.specs.Fault.{IsFault}
 use Rattle.topo_csv.specs.Left.{GivesNext}
+use Rattle.topo_csv.specs.Texts.{text_of}
+use Rattle.topo_csv.specs.declared.field.Field.{Field}
 
 -- these rows, and those behind them
 unfoldable pub behind : {R : Type 0} → List R → Result (List R) Refusal → Result (List R) Refusal
@@ -51,6 +53,13 @@ pub refused_one : {R : Type 0} (t : Table) (read : Line → Result R Refusal) (h
     → behind rows (rows_from t read header n left) ≡ Err why
 unfolding rows_from behind
 refused_one t read header n left fields more rows why e h = rw (e, sym h) refl
+
+-- a record that was given, by the texts of its fields
+pub texts_given : (left : List (List (List ℕ))) (row : List (List ℕ)) (more : List (List (List ℕ))) (items fields : List Field) → left ≡ row ∷ more → fields ≡ items → map text_of items ≡ row → left ≡ map text_of fields ∷ more
+texts_given left row more items fields given same texts = given ∙ ap (λ r. r ∷ more) (sym (ap (map text_of) same ∙ texts))
+
+pub texts_behind : (left : List (List (List ℕ))) (more : List (List (List ℕ))) (items fields : List Field) → left ≡ map text_of items ∷ more → fields ≡ items → left ≡ map text_of fields ∷ more
+texts_behind left more items fields given same = given ∙ ap (λ fs. map text_of fs ∷ more) (sym same)
 
 -- no line is left
 pub read_all : {R : Type 0} (t : Table) (read : Line → Result R Refusal) (header : List (List ℕ)) (n : ℕ) (left : List (List (List ℕ))) (rows : List R)

@@ -2,3 +2,5 @@ pub mod Codes
 pub mod Fault
 pub mod Left
 pub mod Lines
+pub mod Plain
+pub mod Texts

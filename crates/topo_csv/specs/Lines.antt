@@ -1,16 +1,17 @@
 -- The line that a record makes below a header, and the numbers in it.
-use Rattle.std.specs.Prelude.{◌==◌, length, if◌then◌else◌, Option, Some, None, Result, Ok, Err}
+use Rattle.std.specs.Prelude.{◌==◌, length, map, if◌then◌else◌, Option, Some, None, Result, Ok, Err}
 use Rattle.csv.specs.Records.{fields_of}
 use Rattle.topo_base.specs.declared.refusal.Table.{Table}
 use Rattle.topo_base.specs.declared.refusal.Column.{Column}
 use Rattle.topo_base.specs.declared.refusal.Refusal.{Refusal}
 use Rattle.topo_base.specs.declared.refusal.Refusal.TheVariants as refusal
 use Rattle.plane_model.specs.Reading.{Line, field, ok_or_bad, ◌>>=◌}
+use Rattle.topo_csv.specs.Texts.{text_of}
 use Rattle.topo_csv.specs.declared.line.Line as read
 
--- a line with the fields of its records
+-- a line with the texts of its fields
 abbrev pub line_of : read.Line → Line
-line_of line = record { header = fields_of line.header.now.names; row = line.row; fields = fields_of line.fields.now }
+line_of line = record { header = fields_of line.header.now.names; row = line.row; fields = map text_of line.fields.now }
 
 -- the table that a line stands in
 abbrev pub table_of : read.Line → Table

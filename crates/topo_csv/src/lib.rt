@@ -11,8 +11,10 @@
 #![tactic(auto)]
 
 pub mod fault;
+mod field;
 mod header;
 mod line;
+mod plain;
 mod record;
 mod row;
 mod row_list;

@@ -1,10 +1,12 @@
 //! The records of a table one by one.
 
-ghost use Rattle.std.specs.Prelude.{◌≡◌, IfOk, true, [], ◌∷◌};
+ghost use Rattle.std.specs.Prelude.{◌≡◌, IfOk, true, [], ◌∷◌, map};
 ghost use Rattle.csv.specs.Records.{fields_of};
 ghost use Rattle.csv.specs.Reading.{default_config, records, strip_bom};
 ghost use Rattle.topo_csv.specs.Left.{GivesNext, IsReading, left_in};
+ghost use Rattle.topo_csv.specs.Texts.{text_of};
 
+use crate::field::Field;
 use csv::{ByteRecord, ErrorKind, Reader, ReaderBuilder};
 use std::alloc::{AllocError, Global};
 
@@ -39,4 +41,26 @@ pub fn next_record(reader: &mut Reader<&[u8]>, fields: &mut ByteRecord) -> Resul
         fields.clear();
     }
     Ok(found)
+}
+
+/// The fields of a record that the crate's reader gave.
+pub fn fields_in<'a>(alloc: Global, row: &'a ByteRecord) -> Result<Vec<Field<'a>>, AllocError>
+    ensures { IfOk result (λ fields. map text_of fields.items ≡ fields_of row.now) }
+{
+    let mut fields = Vec::with_capacity(alloc, row.len())?;
+    for text in row {
+        fields.push(Field::new(text))?;
+    }
+    Ok(fields)
+}
+
+/// The record of these fields.
+pub fn record_of(alloc: Global, fields: &[Field<'_>]) -> Result<ByteRecord, AllocError>
+    ensures { IfOk result (λ row. fields_of row ≡ map text_of fields.now) }
+{
+    let mut row = ByteRecord::new(alloc);
+    for field in fields {
+        row.push_field(field.text())?;
+    }
+    Ok(row)
 }

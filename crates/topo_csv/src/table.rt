@@ -1,19 +1,23 @@
 //! The rows of a table's bytes.
 
-ghost use Rattle.std.specs.Prelude.{◌≡◌, IfOk, IfErr, Ok};
+ghost use Rattle.std.specs.Prelude.{◌≡◌, IfOk, IfErr, IsTrue, Ok};
 ghost use Rattle.csv.specs.Records.{fields_of};
-ghost use Rattle.plane_model.specs.Reading.{row_of, rows, rows_from, node_rows, edge_rows, face_rows, region_rows, member_rows};
+ghost use Rattle.csv.specs.Reading.{default_config, records};
+ghost use Rattle.plane_model.specs.Reading.{row_of, rows, rows_from, rows_in, node_rows, edge_rows, face_rows, region_rows, member_rows};
 ghost use Rattle.topo_csv.specs.Fault.{IsFault};
 ghost use Rattle.topo_csv.specs.Left.{IsReading, left_in};
 ghost use Rattle.topo_csv.specs.Lines.{line_of, table_of};
+ghost use Rattle.topo_csv.specs.Plain.{has_no_quote};
 
 use crate::fault::CsvFault;
 use crate::header::{Header, most_rows};
 use crate::line::Line;
-use crate::record::{next_record, records};
+use crate::plain::{plain_record, without_mark};
+use crate::record::{fields_in, next_record, record_of, records};
 use crate::row::TableRow;
 use crate::row_list::RowList;
 use csv::{ByteRecord, Reader};
+use memchr::memchr;
 use plane_model::{EdgeTable, FaceRow, MemberRow, NodeTable, RegionRow};
 use std::alloc::Global;
 use topo_base::Refusal;
@@ -54,8 +58,9 @@ fn read_lines<L: RowList>(
         (fields_of header.now.names) 1 (left_in reader.old))) }
 {
     let mut rows = L::empty(alloc);
-    let mut fields = ByteRecord::new(alloc);
-    while next_record(reader, &mut fields)? {
+    let mut record = ByteRecord::new(alloc);
+    while next_record(reader, &mut record)? {
+        let fields = fields_in(alloc, &record)?;
         let line = Line {
             header,
             row: rows.len() as u64 + 1,
@@ -66,11 +71,56 @@ fn read_lines<L: RowList>(
     Ok(rows)
 }
 
+/// The rows of the lines below the header of a table without quotes.
+fn read_plain_lines<L: RowList>(alloc: Global, header: &Header, bytes: &[u8]) -> Result<L, CsvFault>
+    requires table { header.now.table ≡ L.Row.of_table }
+    requires plain { IsTrue (has_no_quote bytes.now) }
+    ensures rows { IfOk result (λ rows. rows_from L.Row.of_table L.Row.read_line (fields_of header.now.names) 1
+        (records default_config bytes.now) ≡ Ok (L.listed rows)) }
+    ensures refused { IfErr result (λ e. IsFault e (rows_from L.Row.of_table L.Row.read_line
+        (fields_of header.now.names) 1 (records default_config bytes.now))) }
+{
+    let mut rows = L::empty(alloc);
+    let mut fields = Vec::new(alloc);
+    let mut left = bytes;
+    while let Some(behind) = plain_record(left, &mut fields)? {
+        let line = Line {
+            header,
+            row: rows.len() as u64 + 1,
+            fields: &fields,
+        };
+        rows.push(read_row(&line)?)?;
+        left = behind;
+    }
+    Ok(rows)
+}
+
+/// The rows of a table without quotes.
+fn read_plain_rows<L: RowList>(alloc: Global, bytes: &[u8]) -> Result<L, CsvFault>
+    requires { IsTrue (has_no_quote bytes.now) }
+    ensures rows { IfOk result (λ read. rows_in L.Row.of_table L.Row.read_line (records default_config bytes.now)
+        ≡ Ok (L.listed read)) }
+    ensures refused { IfErr result (λ e. IsFault e (rows_in L.Row.of_table L.Row.read_line
+        (records default_config bytes.now))) }
+{
+    let mut fields = Vec::new(alloc);
+    let below = match plain_record(bytes, &mut fields)? {
+        Some(below) => below,
+        None => &[],
+    };
+    let names = record_of(alloc, &fields)?;
+    let header = Header::new(L::Row::table(), names)?;
+    read_plain_lines(alloc, &header, below)
+}
+
 /// The rows of any table.
 fn read_rows<L: RowList>(alloc: Global, bytes: &[u8]) -> Result<L, CsvFault>
     ensures rows { IfOk result (λ read. rows L.Row.of_table L.Row.read_line bytes.now ≡ Ok (L.listed read)) }
     ensures refused { IfErr result (λ e. IsFault e (rows L.Row.of_table L.Row.read_line bytes.now)) }
 {
+    if memchr(b'"', bytes).is_none() {
+        return read_plain_rows(alloc, without_mark(bytes));
+    }
     let mut reader = records(alloc, bytes);
     let mut names = ByteRecord::new(alloc);
     next_record(&mut reader, &mut names)?;

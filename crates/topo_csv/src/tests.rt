@@ -185,6 +185,12 @@ fn the_first_wrong_row_is_refused(rt: HostRuntime) -> Result<(), Fail> {
         ),
         ("1,1,2,2,-3,NULL,0\n", bad(1, Column::LeftFace)),
         ("1,1,2,2,-3,1, 0\n", bad(1, Column::RightFace)),
+        ("1,1,2,2,-3,1,00\n", bad(1, Column::RightFace)),
+        ("1,1,2,2,--3,1,0\n", bad(1, Column::NextRightEdge)),
+        (
+            "1,123456789012345678,1234567890123456789,2,-3,1,12345678901234567890\n",
+            bad(1, Column::RightFace),
+        ),
         ("1,1,2,2,-3,,-1\n", empty(1, Column::LeftFace)),
         ("1,1,2,,x,1,0\n", empty(1, Column::NextLeftEdge)),
         ("1,1,x,,3,1,0\n", bad(1, Column::EndNode)),
@@ -194,14 +200,16 @@ fn the_first_wrong_row_is_refused(rt: HostRuntime) -> Result<(), Fail> {
         ),
     ];
     for (rows, why) in refused {
-        let text = format!(in rt.alloc();
-            "edge_id,start_node,end_node,next_left_edge,next_right_edge,left_face,right_face\n{rows}"
-        )?;
-        assert_eq!(rt;
-            read_edges(rt.alloc(), text.as_bytes()).err(),
-            Some(CsvFault::Refused(why)),
-            "{rows}"
-        );
+        for first in ["edge_id", "\"edge_id\""] {
+            let text = format!(in rt.alloc();
+                "{first},start_node,end_node,next_left_edge,next_right_edge,left_face,right_face\n{rows}"
+            )?;
+            assert_eq!(rt;
+                read_edges(rt.alloc(), text.as_bytes()).err(),
+                Some(CsvFault::Refused(why)),
+                "{text}"
+            );
+        }
     }
     Ok(())
 }

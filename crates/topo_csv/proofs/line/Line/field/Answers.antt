@@ -1,15 +1,9 @@
-use Rattle.std.proofs.Common.{◌≡◌, ◌∙◌, ℕ, List, [], Option, Some, ap}
-use Rattle.std.specs.Prelude.{slice_get, unwrap_or, option_and_then}
-use Rattle.csv.specs.Records.{fields_of}
-use Rattle.topo_csv.proofs.Fields.{field_gets}
+use Rattle.std.proofs.Common.{sym, ◌∙◌}
+use Rattle.topo_csv.proofs.Fields.{no_text_there, text_there}
 use Rattle.topo_csv.proofs.line.Line.field.Goals as goal
 
--- the field at the place of a column
-at_place : (fields : List (List ℕ)) (place : Option ℕ) (i : ℕ) (o : Option (List ℕ)) → Some i ≡ place → o ≡ slice_get fields i → unwrap_or o [] ≡ unwrap_or (option_and_then (slice_get fields) place) []
-at_place fields place i o e h = ap (λ v. unwrap_or v []) (h ∙ ap (option_and_then (slice_get fields)) e)
-
 pub returns-in-Some-get : goal.returns-in-Some-get
-returns-in-Some-get c = at_place (fields_of c.args.self.now.fields.now) _ _ _ c.in-Some.ensures (c.in-Some-get.ensures.value ∙ field_gets _ _)
+returns-in-Some-get c = let found = c.in-Some-get.ensures.lookup in text_there c.args.self.now.fields.now _ _ _ c.in-Some.ensures (sym found.0) found.1
 
 pub returns-in-None : goal.returns-in-None
-returns-in-None c = at_place (fields_of c.args.self.now.fields.now) _ _ _ c.in-Some.ensures (c.in-None.ensures.value ∙ field_gets _ _)
+returns-in-None c = let found = c.in-None.ensures.lookup in c.new-in-None.ensures ∙ no_text_there c.args.self.now.fields.now _ _ c.in-Some.ensures (sym found.0)
