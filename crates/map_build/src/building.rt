@@ -7,6 +7,7 @@ ghost use Rattle.plane_model.specs.PlaneMap.{map_of};
 ghost use Rattle.plane_model.specs.Consistent.{is_consistent};
 ghost use Rattle.plane_model.specs.Faults.{first_fault};
 ghost use Rattle.region_tree.specs.Parts.{member_places};
+ghost use Rattle.pemb_file.specs.Draft.{file_of_draft};
 ghost use Rattle.pemb_file.specs.Parts.{contents_of_parts};
 ghost use Rattle.file_laws.specs.Image.{image_of};
 ghost use Rattle.file_laws.specs.Lawful.{is_lawful, StandsFor};
@@ -21,7 +22,7 @@ use crate::names::{Names, name_walk};
 use crate::places::{FacePlaces, component_order};
 use crate::regions::number_regions;
 use crate::standing::{Standing, standing_nodes, standing_places};
-use pemb_file::{ImageParts, write_image};
+use pemb_file::{Draft, ImageParts, write_draft};
 use plane_model::Tables;
 use region_tree::{MemberPlace, RegionParts};
 use spanning_pair::Tour;
@@ -131,14 +132,13 @@ fn gather(alloc: Global, tables: &Tables) -> Result<Gathered, BuildFault>
     })
 }
 
-/// The image of the map of tables, or why there is none. Its bytes are a function of the map alone: tables with the
-/// same map give the same image, whatever the order of their rows, and so does a row for face 0.
-pub fn build(alloc: Global, tables: Tables) -> Result<Vec<u8>, BuildFault>
+/// A draft of the image of the map of tables, or why there is none: what `build` gives, but for the digest.
+pub fn draft(alloc: Global, tables: Tables) -> Result<Draft, BuildFault>
     requires in_range { IsTrue (is_in_range (rows_of tables)) }
     ensures consistent { OnOk result (IsTrue (is_consistent (rows_of tables))) }
-    ensures lawful { IfOk result (λ image. IsTrue (is_lawful image.items)) }
-    ensures stands { IfOk result (λ image. StandsFor image.items (rows_of tables)) }
-    ensures image { IfOk result (λ image. image.items ≡ image_of 2 (contents_of_map (map_of (rows_of tables)))) }
+    ensures lawful { IfOk result (λ draft. IsTrue (is_lawful (file_of_draft draft))) }
+    ensures stands { IfOk result (λ draft. StandsFor (file_of_draft draft) (rows_of tables)) }
+    ensures image { IfOk result (λ draft. file_of_draft draft ≡ image_of 2 (contents_of_map (map_of (rows_of tables)))) }
     ensures refused { IfErr result (λ e. NamesFault e (first_fault (rows_of tables))) }
     ensures exactly { is_none (first_fault (rows_of tables)) ≡ is_consistent (rows_of tables) }
 {
@@ -154,5 +154,20 @@ pub fn build(alloc: Global, tables: Tables) -> Result<Vec<u8>, BuildFault>
         regions,
     } = gathered;
     let parts = join(alloc, tour, names, placed, regions)?;
-    Ok(write_image(alloc, &parts)?)
+    Ok(write_draft(alloc, &parts)?)
+}
+
+/// The image of the map of tables, or why there is none. Its bytes are a function of the map alone: tables with the
+/// same map give the same image, whatever the order of their rows, and so does a row for face 0.
+pub fn build(alloc: Global, tables: Tables) -> Result<Vec<u8>, BuildFault>
+    requires in_range { IsTrue (is_in_range (rows_of tables)) }
+    ensures consistent { OnOk result (IsTrue (is_consistent (rows_of tables))) }
+    ensures lawful { IfOk result (λ image. IsTrue (is_lawful image.items)) }
+    ensures stands { IfOk result (λ image. StandsFor image.items (rows_of tables)) }
+    ensures image { IfOk result (λ image. image.items ≡ image_of 2 (contents_of_map (map_of (rows_of tables)))) }
+    ensures refused { IfErr result (λ e. NamesFault e (first_fault (rows_of tables))) }
+    ensures exactly { is_none (first_fault (rows_of tables)) ≡ is_consistent (rows_of tables) }
+{
+    let draft = draft(alloc, tables)?;
+    Ok(draft.seal())
 }

@@ -16,5 +16,5 @@ mod standing;
 mod tests;
 pub mod worked;
 
-pub use building::build;
+pub use building::{build, draft};
 pub use fault::BuildFault;

@@ -25,6 +25,7 @@ use Rattle.file_laws.specs.Faults.{front_fault, digest_fault, count_fault, direc
 use Rattle.file_laws.specs.Lawful.{is_lawful, is_whole, first_fault, content_fault, whole_tests}
 use Rattle.file_laws.specs.Image.{Filled, counts_of_contents, counts_words, content_words, filled, section_of, words_of_filled, with_bits, with_fields, with_width, with_words, packed, ones, bytes_of, image_of, names_for}
 use Rattle.pemb_file.specs.Written.{AllFit, AreNamed}
+use Rattle.pemb_file.specs.Sealed.{LacksOnlyDigest}
 use Rattle.file_laws.specs.declared.fault.FileFault.{FileFault}
 use Rattle.file_laws.specs.declared.fault.FileFault.TheVariants as fault
 use Rattle.file_laws.proofs.Agreement.{test_at}
@@ -349,41 +350,39 @@ front_parts bytes words =
     ∷ unless (length words == wanted_words words) (fault.Length (wanted_words words) (length words))
     ∷ []
 
-module _ (form : ℕ) (known : IsTrue ((form == 1) || (form == 2))) (c : Contents) (w : IsTrue (is_whole c)) (n : AllNamed form c) (fit : AllFit (filled form c)) where
-  abbrev content : List ℕ
-  content = bytes_of (content_words form c)
+-- the bytes of contents in a form, with these in the place of the digest
+abbrev pub image_with : List ℕ → ℕ → Contents → List ℕ
+image_with digest form c = bytes_of (magic ∷ form ∷ []) ++ digest ++ bytes_of (content_words form c)
 
-  abbrev digest : List ℕ
-  digest = sha256 content
-
+-- whatever stands in the place of the digest: nothing else is wrong, and the sections hold the contents
+module _ (digest : List ℕ) (size : length digest ≡ 32) (form : ℕ) (known : IsTrue ((form == 1) || (form == 2))) (c : Contents) (w : IsTrue (is_whole c)) (n : AllNamed form c) (fit : AllFit (filled form c)) where
   head_bytes : length (bytes_of (magic ∷ form ∷ [])) ≡ 16
   head_bytes = length-bytes_of (magic ∷ form ∷ [])
 
-  image_is : image_of form c ≡ bytes_of (magic ∷ form ∷ []) ++ (digest ++ content)
-  unfolding image_of
-  image_is = append_assoc (bytes_of (magic ∷ form ∷ [])) digest content
+  bytes_are : image_with digest form c ≡ bytes_of (magic ∷ form ∷ []) ++ (digest ++ bytes_of (content_words form c))
+  bytes_are = append_assoc (bytes_of (magic ∷ form ∷ [])) digest (bytes_of (content_words form c))
 
-  image_len : length (image_of form c) ≡ 8 * (6 + length (content_words form c))
-  image_len =
+  bytes_len : length (image_with digest form c) ≡ 8 * (6 + length (content_words form c))
+  bytes_len =
       let a = head_bytes in
-      let b = length-sha256 content in
       let d = length-bytes_of (content_words form c) in
-      let e = ap length image_is ∙ length-append (bytes_of (magic ∷ form ∷ [])) (digest ++ content) in
-      let f = length-append digest content in
-      omega (arith, a, b, d, e, f)
+      let e = ap length bytes_are ∙ length-append (bytes_of (magic ∷ form ∷ [])) (digest ++ bytes_of (content_words form c)) in
+      let f = length-append digest (bytes_of (content_words form c)) in
+      omega (arith, a, size, d, e, f)
 
-  -- the words of the image
-  pub words_are_those : words_of (image_of form c) ≡ image_words digest form c
+  -- the words of the bytes
+  pub words_are_those : words_of (image_with digest form c) ≡ image_words digest form c
   unfolding words_of
   words_are_those =
+      let content = bytes_of (content_words form c) in
       let len = length (content_words form c) in
-      let l : length (image_of form c) / 8 ≡ 2 + (4 + len) = let e = image_len in omega (arith, e) in
-      let tail : length (digest ++ content) ≡ 8 * (4 + len) = let b = length-sha256 content in let d = length-bytes_of (content_words form c) in let f = length-append digest content in omega (arith, b, d, f) in
+      let l : length (image_with digest form c) / 8 ≡ 2 + (4 + len) = let e = bytes_len in omega (arith, e) in
+      let tail : length (digest ++ content) ≡ 8 * (4 + len) = let d = length-bytes_of (content_words form c) in let f = length-append digest content in omega (arith, size, d, f) in
       let small : (k : ℕ) → slice_index (content_words form c) k < 2 ^ 64 = below_both (counts_words (counts_of_contents form c)) (flat_map words_of_filled (filled form c)) (below_counts form c w) (below_sections (filled form c)) in
-      ap (λ k. words_in k (image_of form c)) l ∙ ap (words_in (2 + (4 + len))) image_is
+      ap (λ k. words_in k (image_with digest form c)) l ∙ ap (words_in (2 + (4 + len))) bytes_are
       ∙ words_in-append 2 (4 + len) (bytes_of (magic ∷ form ∷ [])) (digest ++ content) head_bytes tail
       ∙ ap (λ ws. ws ++ words_in (4 + len) (digest ++ content)) (words_in-bytes_of (magic ∷ form ∷ []) small_head)
-      ∙ ap (λ ws. magic ∷ form ∷ ws) (words_in-append 4 len digest content (length-sha256 content) (length-bytes_of (content_words form c))
+      ∙ ap (λ ws. magic ∷ form ∷ ws) (words_in-append 4 len digest content size (length-bytes_of (content_words form c))
       ∙ ap (λ ws. words_in 4 digest ++ ws) (words_in-bytes_of (content_words form c) small))
     where
       small_form : form < 2 ^ 64
@@ -397,26 +396,7 @@ module _ (form : ℕ) (known : IsTrue ((form == 1) || (form == 2))) (c : Content
       small_head (suc zero) = small_form
       small_head (suc (suc k)) = lit< tt
 
-  content_is : drop 48 (image_of form c) ≡ content
-  unfolding image_of
-  content_is =
-      let a = head_bytes in
-      let b = length-sha256 content in
-      let l : 48 ≡ length (bytes_of (magic ∷ form ∷ []) ++ digest) = let e = length-append (bytes_of (magic ∷ form ∷ [])) digest in omega (arith, a, b, e) in
-      ap (λ n. drop n ((bytes_of (magic ∷ form ∷ []) ++ digest) ++ content)) l
-      ∙ drop-append_seam (bytes_of (magic ∷ form ∷ []) ++ digest) content
-
-  digest_at : (k : ℕ) → k < 32 → slice_index (image_of form c) (16 + k) ≡ slice_index digest k
-  digest_at k l =
-      let b = length-sha256 content in
-      ap (λ bytes. slice_index bytes (16 + k)) image_is ∙ ap (λ n. slice_index (bytes_of (magic ∷ form ∷ []) ++ (digest ++ content)) (n + k)) (sym head_bytes)
-      ∙ get_or-append-add (bytes_of (magic ∷ form ∷ [])) (digest ++ content) k 0
-      ∙ get_or_append_left digest content 0 k (omega (arith, l, b))
-
-  digest_none : digest_fault (image_of form c) ≡ None
-  digest_none = digest-right (image_of form c) digest (ap sha256 (sym content_is)) digest_at
-
-  front_none : front_fault (image_of form c) ≡ None
+  front_none : front_fault (image_with digest form c) ≡ None
   unfolding front_fault
   front_none =
       let words = image_words digest form c in
@@ -424,18 +404,62 @@ module _ (form : ℕ) (known : IsTrue ((form == 1) || (form == 2))) (c : Content
       let k : length (content_words form c) ≡ 9 + length (flat_map words_of_filled (filled form c)) = length-append (counts_words (counts_of_contents form c)) (flat_map words_of_filled (filled form c)) in
       let there : nat_le header_words (length words) ≡ true = le-leb _ _ (omega (arith, l, k)) in
       let wanted : wanted_words words ≡ file_words (counts_in words) = rw there refl in
-      ap (λ ws. first_some (front_parts (image_of form c) ws)) words_are_those
-      ∙ all_none _ _ (fine _ _ (eq-eqb _ _ (let e = image_len in omega (arith, e))))
+      ap (λ ws. first_some (front_parts (image_with digest form c) ws)) words_are_those
+      ∙ all_none _ _ (fine _ _ (eq-eqb _ _ (let e = bytes_len in omega (arith, e))))
       (all_none _ _ (fine _ _ (and_from _ _ (le-leb _ _ (omega (arith, l))) refl))
       (all_none _ _ (fine _ _ known)
       (all_none _ _ (fine _ _ (eq-eqb _ _ (long digest form c (many c w) n fit ∙ sym wanted))) first-end)))
 
-  pub image_lawful : IsTrue (is_lawful (image_of form c))
+  pub only_digest : LacksOnlyDigest (image_with digest form c)
+  only_digest = record {
+    front = front_none;
+    counts = ap (λ ws. count_fault (counts_in ws)) words_are_those ∙ ap count_fault (counts_are digest form c) ∙ no_count_fault form c w;
+    content = ap content_fault words_are_those ∙ content_none digest form c w n fit;
+  }
+
+  pub contents_held : contents_of (words_of (image_with digest form c)) ≡ c
+  contents_held = ap contents_of words_are_those ∙ contents_back digest form c (many c w) n fit
+
+module _ (form : ℕ) (known : IsTrue ((form == 1) || (form == 2))) (c : Contents) (w : IsTrue (is_whole c)) (n : AllNamed form c) (fit : AllFit (filled form c)) where
+  abbrev content : List ℕ
+  content = bytes_of (content_words form c)
+
+  abbrev own_digest : List ℕ
+  own_digest = sha256 content
+
+  image_is : image_of form c ≡ image_with own_digest form c
+  unfolding image_of
+  image_is = refl
+
+  content_is : drop 48 (image_with own_digest form c) ≡ content
+  content_is =
+      let l : 48 ≡ length (bytes_of (magic ∷ form ∷ []) ++ own_digest) =
+      let a = length-bytes_of (magic ∷ form ∷ []) in
+      let b = length-sha256 content in
+      let e = length-append (bytes_of (magic ∷ form ∷ [])) own_digest in
+      omega (arith, a, b, e) in
+      ap (λ n. drop n ((bytes_of (magic ∷ form ∷ []) ++ own_digest) ++ content)) l
+      ∙ drop-append_seam (bytes_of (magic ∷ form ∷ []) ++ own_digest) content
+
+  digest_at : (k : ℕ) → k < 32 → slice_index (image_with own_digest form c) (16 + k) ≡ slice_index own_digest k
+  digest_at k l =
+      let b = length-sha256 content in
+      ap (λ bytes. slice_index bytes (16 + k)) (append_assoc (bytes_of (magic ∷ form ∷ [])) own_digest content)
+      ∙ ap (λ n. slice_index (bytes_of (magic ∷ form ∷ []) ++ (own_digest ++ content)) (n + k)) (sym (length-bytes_of (magic ∷ form ∷ [])))
+      ∙ get_or-append-add (bytes_of (magic ∷ form ∷ [])) (own_digest ++ content) k 0
+      ∙ get_or_append_left own_digest content 0 k (omega (arith, l, b))
+
+  digest_none : digest_fault (image_with own_digest form c) ≡ None
+  digest_none = digest-right (image_with own_digest form c) own_digest (ap sha256 (sym content_is)) digest_at
+
+  lawful : IsTrue (is_lawful (image_with own_digest form c))
   unfolding first_fault
-  image_lawful =
-      let counts : count_fault (counts_in (words_of (image_of form c))) ≡ None = ap (λ ws. count_fault (counts_in ws)) words_are_those ∙ ap count_fault (counts_are digest form c) ∙ no_count_fault form c w in
-      let contents : content_fault (words_of (image_of form c)) ≡ None = ap content_fault words_are_those ∙ content_none digest form c w n fit in
-      rw (front_none, digest_none, counts, contents) refl
+  lawful =
+      let f = only_digest own_digest (length-sha256 content) form known c w n fit in
+      rw (f.front, digest_none, f.counts, f.content) refl
+
+  pub image_lawful : IsTrue (is_lawful (image_of form c))
+  image_lawful = subst (λ bytes. IsTrue (is_lawful bytes)) (sym image_is) lawful
 
   pub image_contents : contents_of (words_of (image_of form c)) ≡ c
-  image_contents = ap contents_of words_are_those ∙ contents_back digest form c (many c w) n fit
+  image_contents = ap (λ bytes. contents_of (words_of bytes)) image_is ∙ contents_held own_digest (length-sha256 content) form known c w n fit

@@ -11,12 +11,12 @@ use Rattle.file_laws.specs.Layout.{counts_in, words_of, bits_at, fields_at}
 use Rattle.file_laws.specs.Contents.{contents_with}
 use Rattle.file_laws.specs.Held.{ids_at, contents_of}
 use Rattle.file_laws.specs.Faults.{front_fault, digest_fault, count_fault, directories_fault, names_fault, told_in, all_names_fault, places_fault, start_fault, regions_fault, padding_fault}
-use Rattle.file_laws.specs.Lawful.{first_fault, content_fault, is_lawful, is_whole}
+use Rattle.file_laws.specs.Lawful.{first_fault, content_fault, is_whole}
 use Rattle.file_laws.specs.declared.fault.FileFault.{FileFault}
 use Rattle.file_laws.specs.declared.fault.FileFault.TheVariants as fault
-use Rattle.file_laws.proofs.Lengths.{no_faults}
 use Rattle.file_laws.proofs.Whole.{option_none, whole_sound}
-use Rattle.file_laws.proofs.Sections.{counts_fit, content_fits, whole_words, lawful_whole}
+use Rattle.file_laws.proofs.Sections.{counts_fit, content_fits, whole_words}
+use Rattle.pemb_file.specs.Sealed.{LacksOnlyDigest}
 use Rattle.pemb_file.proofs.FrontFaults.{begun_fault, first-some, first-none, first-last}
 
 -- the names of each class
@@ -137,23 +137,23 @@ unfolding first_fault
 begun-none bytes words o same h c =
     three-none (front_fault bytes) (digest_fault bytes) (count_fault (counts_in (words_of bytes))) (content_fault (words_of bytes)) h ∙ ap content_fault (sym same) ∙ c
 
--- what the views of a lawful file stand on
-pub record LawfulParts (words : List ℕ) : Type 0 where
+-- what the views of bytes stand on in which nothing is wrong but perhaps their digest
+pub record UncheckedParts (words : List ℕ) : Type 0 where
   pub sound : IsTrue (is_sound (contents_of words).code)
   pub directories : directories_fault words (contents_of words).code ≡ None
   pub names : all_names_fault words ≡ None
   pub regions : regions_fault words (contents_of words) ≡ None
   pub whole : IsTrue (is_whole (contents_of words))
 
-pub lawful_parts : (bytes words : List ℕ) → words ≡ words_of bytes → IsTrue (is_lawful bytes) → LawfulParts words
-lawful_parts bytes words same h =
-    let fits = content_fits (words_of bytes) (no_faults bytes h).content in
-    let whole = lawful_whole bytes h in
-    let parts : LawfulParts (words_of bytes) = record {
+pub unchecked_parts : (bytes words : List ℕ) → words ≡ words_of bytes → LacksOnlyDigest bytes → UncheckedParts words
+unchecked_parts bytes words same h =
+    let fits = content_fits (words_of bytes) h.content in
+    let whole = whole_words (words_of bytes) (counts_fit (counts_in (words_of bytes)) h.counts) fits in
+    let parts : UncheckedParts (words_of bytes) = record {
       sound = whole_sound (contents_of (words_of bytes)) whole;
       directories = fits.directories;
       names = fits.names;
       regions = fits.regions;
       whole = whole;
     } in
-    subst LawfulParts (sym same) parts
+    subst UncheckedParts (sym same) parts

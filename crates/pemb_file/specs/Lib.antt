@@ -12,3 +12,5 @@ pub mod Parens
 pub mod PlacedFits
 pub mod PlacedView
 pub mod Written
+pub mod Sealed
+pub mod Draft

@@ -5,7 +5,7 @@ ghost use Rattle.bit_words.specs.WordView.{words_of as view_words};
 ghost use Rattle.sha2.specs.Sha256.{sha256};
 ghost use Rattle.plane_model.specs.Sets.{or_else};
 ghost use Rattle.file_laws.specs.Layout.{words_of, counts_in, node_count, face_count, file_words, header_words};
-ghost use Rattle.file_laws.specs.Lawful.{is_lawful};
+ghost use Rattle.pemb_file.specs.Sealed.{LacksOnlyDigest};
 ghost use Rattle.pemb_file.specs.Form.{number_of};
 ghost use Rattle.pemb_file.specs.Header.{counts_of_header};
 ghost use Rattle.file_laws.specs.Faults.{unless, magic, most, front_fault, digest_fault, count_fault};
@@ -242,9 +242,9 @@ pub(crate) fn open_header<'a, C: Ledger>(
     })
 }
 
-/// The words of a file that is known to be lawful: its digest is not computed.
-pub(crate) fn lawful_image<'a, C: Ledger>(bytes: &'a [u8], steps: &mut Steps<C>) -> Image<'a>
-    requires lawful { IsTrue (is_lawful bytes.now) }
+/// The words of bytes in which nothing is wrong but perhaps their digest, which is not computed.
+pub(crate) fn unchecked_image<'a, C: Ledger>(bytes: &'a [u8], steps: &mut Steps<C>) -> Image<'a>
+    requires right { LacksOnlyDigest bytes.now }
     ensures words { view_words result.words ≡ words_of bytes.now }
     ensures grows { steps.old ≤ steps.new }
     ensures cost { steps.new ≤ steps.old + 11 }

@@ -3,6 +3,7 @@
 
 mod ahead;
 mod counts;
+mod draft;
 mod form;
 mod header;
 mod image;
@@ -18,9 +19,10 @@ mod writing;
 
 pub use ahead::IdsAhead;
 pub use counts::Counts;
+pub use draft::Draft;
 pub use file_laws::FileFault;
 pub use open_file::OpenFile;
 pub use opening::{open, open_lawful};
 pub use parts::ImageParts;
 pub use served::Served;
-pub use writing::{write_image, write_old_image};
+pub use writing::{write_draft, write_image, write_old_image};

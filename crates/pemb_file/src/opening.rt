@@ -17,9 +17,10 @@ ghost use Rattle.file_laws.specs.Faults.{front_fault, digest_fault, count_fault,
 ghost use Rattle.plane_model.specs.Sets.{or_else};
 ghost use Rattle.file_laws.specs.Lawful.{first_fault, content_fault, is_lawful, is_whole, file_size};
 ghost use Rattle.pemb_file.specs.OpenFile.{contents_of_file};
+ghost use Rattle.pemb_file.specs.Sealed.{LacksOnlyDigest};
 ghost use Rattle.pemb_file.specs.Checked.{Finds};
 
-use crate::header::{lawful_image, open_header};
+use crate::header::{open_header, unchecked_image};
 use crate::image::Image;
 use crate::open_file::OpenFile;
 use crate::places::Placed;
@@ -154,6 +155,17 @@ pub fn open<'a, C: Ledger>(bytes: &'a [u8], steps: &mut Steps<C>) -> Result<Open
     content(&image, steps)
 }
 
+/// The views of bytes in which nothing is wrong but perhaps their digest: nothing of them is checked again.
+pub(crate) fn open_unchecked<'a, C: Ledger>(bytes: &'a [u8], steps: &mut Steps<C>) -> OpenFile<'a>
+    requires right { LacksOnlyDigest bytes.now }
+    ensures contents { contents_of_file result ≡ contents_of (words_of bytes.now) }
+    ensures cost { steps.new ≤ steps.old + 11 }
+    ensures grows { steps.old ≤ steps.new }
+{
+    let image = unchecked_image(bytes, steps);
+    open_file(&image, code_view(&image))
+}
+
 /// The views of a file that is known to be lawful, as one that was just written is: nothing of it is checked again.
 pub fn open_lawful<'a, C: Ledger>(bytes: &'a [u8], steps: &mut Steps<C>) -> OpenFile<'a>
     requires lawful { IsTrue (is_lawful bytes.now) }
@@ -161,6 +173,5 @@ pub fn open_lawful<'a, C: Ledger>(bytes: &'a [u8], steps: &mut Steps<C>) -> Open
     ensures cost { steps.new ≤ steps.old + 11 }
     ensures grows { steps.old ≤ steps.new }
 {
-    let image = lawful_image(bytes, steps);
-    open_file(&image, code_view(&image))
+    open_unchecked(bytes, steps)
 }

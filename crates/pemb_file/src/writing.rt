@@ -1,20 +1,21 @@
 //! The image of parts: the bytes of a lawful file that holds them.
 
 ghost use Rattle.std.specs.Prelude.{ℕ, ◌≡◌, ◌≤◌, ◌<◌, ◌+◌, ◌*◌, ◌^◌, List, [], ◌∷◌, ◌++◌, length, take, drop, slice_index, IfOk, OnOk, IsTrue};
-ghost use Rattle.sha2.specs.Sha256.{sha256};
 ghost use Rattle.id_names.specs.Names.{AreDistinctIds};
 ghost use Rattle.code_laws.specs.Tour.{code_of};
 ghost use Rattle.file_laws.specs.Layout.{words_of, file_words, id_bits};
 ghost use Rattle.file_laws.specs.Held.{contents_of};
 ghost use Rattle.file_laws.specs.Lawful.{is_lawful, is_whole, has_room_for};
 ghost use Rattle.file_laws.specs.Image.{bytes_of, with_bits, with_fields, with_tree, with_names, code_sections, filled, counts_of_contents, image_of};
+ghost use Rattle.pemb_file.specs.Draft.{file_of_draft};
 ghost use Rattle.pemb_file.specs.Form.{number_of};
 ghost use Rattle.pemb_file.specs.Header.{counts_of_header};
 ghost use Rattle.pemb_file.specs.Parts.{contents_of_parts};
 ghost use Rattle.pemb_file.specs.Written.{Written, blank_header, HoldNames, HoldAllNames};
 
+use crate::draft::Draft;
 use crate::form::Form;
-use crate::header::{MAGIC, digest_of};
+use crate::header::MAGIC;
 use crate::layout::Header;
 use crate::parts::ImageParts;
 use bit_words::{Memory, all_bits, packed_numbers};
@@ -219,29 +220,30 @@ fn begun(alloc: Global, header: Header) -> Result<Vec<u8>, Memory>
     Ok(image)
 }
 
-/// Puts the digest of all bytes behind it in its place.
-fn seal(image: &mut Vec<u8>)
-    requires { 48 ≤ length image.old.items }
-    ensures { image.new.items ≡ take 16 image.old.items ++ sha256 (drop 48 image.old.items) ++ drop 48 image.old.items }
-{
-    let digest = digest_of(&image[48..]);
-    image[16..48].copy_from_slice(&digest);
-}
-
-/// The file of a form that holds these parts.
-fn write(alloc: Global, form: Form, parts: &ImageParts) -> Result<Vec<u8>, Memory>
+/// A draft of the file of a form that holds these parts.
+fn draft_of(alloc: Global, form: Form, parts: &ImageParts) -> Result<Draft, Memory>
     requires walk { length parts.now.tree.items ≡ length parts.now.first.items }
     requires whole { IsTrue (is_whole (contents_of_parts parts.now)) }
     requires room { IsTrue (has_room_for (number_of form) (contents_of_parts parts.now)) }
-    ensures lawful { IfOk result (λ image. IsTrue (is_lawful image.items)) }
-    ensures contents { IfOk result (λ image. contents_of (words_of image.items) ≡ contents_of_parts parts.now) }
-    ensures image { IfOk result (λ image. image.items ≡ image_of (number_of form) (contents_of_parts parts.now)) }
+    ensures lawful { IfOk result (λ draft. IsTrue (is_lawful (file_of_draft draft))) }
+    ensures contents { IfOk result (λ draft. contents_of (words_of (file_of_draft draft)) ≡ contents_of_parts parts.now) }
+    ensures file { IfOk result (λ draft. file_of_draft draft ≡ image_of (number_of form) (contents_of_parts parts.now)) }
 {
     let names = all_names(alloc, form, parts)?;
-    let mut image = begun(alloc, header_of(form, parts, &names))?;
-    push_sections(alloc, &mut image, parts, names)?;
-    seal(&mut image);
-    Ok(image)
+    let mut bytes = begun(alloc, header_of(form, parts, &names))?;
+    push_sections(alloc, &mut bytes, parts, names)?;
+    Ok(Draft { bytes })
+}
+
+/// A draft of the file of form 2 that holds these parts.
+pub fn write_draft(alloc: Global, parts: &ImageParts) -> Result<Draft, Memory>
+    requires walk { length parts.now.tree.items ≡ length parts.now.first.items }
+    requires whole { IsTrue (is_whole (contents_of_parts parts.now)) }
+    ensures lawful { IfOk result (λ draft. IsTrue (is_lawful (file_of_draft draft))) }
+    ensures contents { IfOk result (λ draft. contents_of (words_of (file_of_draft draft)) ≡ contents_of_parts parts.now) }
+    ensures file { IfOk result (λ draft. file_of_draft draft ≡ image_of 2 (contents_of_parts parts.now)) }
+{
+    draft_of(alloc, Form::Two, parts)
 }
 
 /// The file of form 2 that holds these parts. Its bytes are a function of what the parts hold.
@@ -252,7 +254,8 @@ pub fn write_image(alloc: Global, parts: &ImageParts) -> Result<Vec<u8>, Memory>
     ensures contents { IfOk result (λ image. contents_of (words_of image.items) ≡ contents_of_parts parts.now) }
     ensures image { IfOk result (λ image. image.items ≡ image_of 2 (contents_of_parts parts.now)) }
 {
-    write(alloc, Form::Two, parts)
+    let draft = draft_of(alloc, Form::Two, parts)?;
+    Ok(draft.seal())
 }
 
 /// The file of form 1 that holds these parts, whose ids are at most 2,147,483,647. Its bytes are a function of what the
@@ -265,5 +268,6 @@ pub fn write_old_image(alloc: Global, parts: &ImageParts) -> Result<Vec<u8>, Mem
     ensures contents { IfOk result (λ image. contents_of (words_of image.items) ≡ contents_of_parts parts.now) }
     ensures image { IfOk result (λ image. image.items ≡ image_of 1 (contents_of_parts parts.now)) }
 {
-    write(alloc, Form::One, parts)
+    let draft = draft_of(alloc, Form::One, parts)?;
+    Ok(draft.seal())
 }

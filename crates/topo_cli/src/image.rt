@@ -1,26 +1,26 @@
 //! Lawful files, opened.
 
-ghost use Rattle.std.specs.Prelude.{◌≡◌, ◌≤◌, ◌<◌, ◌+◌, ◌*◌, IfOk, IsTrue, length};
+ghost use Rattle.std.specs.Prelude.{◌≡◌, ◌≤◌, ◌<◌, ◌+◌, ◌*◌, IfOk, length};
 ghost use Rattle.plane_model.specs.PlaneMap.{map_of};
-ghost use Rattle.file_laws.specs.Lawful.{is_lawful, map_of_file};
+ghost use Rattle.file_laws.specs.Lawful.{map_of_file};
+ghost use Rattle.pemb_file.specs.Draft.{file_of_draft};
 ghost use Rattle.pemb_file.specs.OpenFile.{contents_of_file};
 ghost use Rattle.pemb_file.specs.Served.{contents_of_view};
 ghost use Rattle.navigate.specs.Bound.{map_with};
 ghost use Rattle.topo_cli.specs.Outcome.{words_of_built};
 
 use bit_words::Steps;
-use pemb_file::{OpenFile, Served, open_lawful};
+use pemb_file::{Draft, OpenFile, Served};
 use std::alloc::{AllocError, Global};
 use std::sync::ledger::Ledger;
 
-/// An image that was built, opened: it is lawful, and not checked again.
-pub fn open_image<'a, L: Ledger>(image: &'a [u8], steps: &mut Steps<L>) -> OpenFile<'a>
-    requires lawful { IsTrue (is_lawful image.now) }
-    ensures map { map_with (contents_of_file result) ≡ map_of (map_of_file image.now) }
+/// A draft that was built, opened: nothing of it is checked again.
+pub fn open_draft<'a, L: Ledger>(draft: &'a Draft, steps: &mut Steps<L>) -> OpenFile<'a>
+    ensures map { map_with (contents_of_file result) ≡ map_of (map_of_file (file_of_draft draft.now)) }
     ensures few { steps.new ≤ steps.old + words_of_built }
     ensures grows { steps.old ≤ steps.new }
 {
-    open_lawful(image, steps)
+    draft.open(steps)
 }
 
 /// Words with a bit for each face of a file, face 0 among them.

@@ -6,6 +6,7 @@ ghost use Rattle.ports.specs.Outside.{Files, IsNotHeld, Rose};
 ghost use Rattle.plane_model.specs.InRange.{is_edge_in_range, is_face_id, is_id, is_in_range, is_none_or};
 ghost use Rattle.plane_model.specs.Reading.{edge_rows, face_rows, member_rows, node_rows, region_rows};
 ghost use Rattle.plane_model.specs.Rows.{rows_of};
+ghost use Rattle.pemb_file.specs.Draft.{file_of_draft};
 ghost use Rattle.topo_cli.specs.Files.{IsWhole};
 ghost use Rattle.topo_cli.specs.Loading.{Builds, IsMetWhereTold, ShowsInCounts, IsStopped, MissesNothing, NamesFile, NamesNeeded, NamesOnly};
 ghost use Rattle.topo_cli.specs.Limits.{most_bytes};
@@ -13,7 +14,8 @@ ghost use Rattle.topo_cli.specs.Tables.{loaded, opened, optional_table, served, 
 ghost use Rattle.topo_cli.specs.Words.{edge_table, face_table, member_table, node_table, region_table};
 
 use crate::files::{FileFault, read_file};
-use map_build::{BuildFault, build};
+use map_build::{BuildFault, draft};
+use pemb_file::Draft;
 use plane_model::{EdgeTable, FaceRow, MemberRow, NodeTable, RegionRow, Tables};
 use ports::Shelf;
 use std::alloc::{AllocError, Global};
@@ -272,9 +274,9 @@ pub fn load_tables<H: Shelf>(alloc: Global, shelf: &mut H, dir: &str) -> Result<
     })
 }
 
-/// The image of a folder's tables that are consistent.
-pub fn load_image<H: Shelf>(alloc: Global, shelf: &mut H, dir: &str) -> Result<Vec<u8>, LoadFault>
-    ensures built { IfOk result (λ image. Builds (H.files shelf.old) dir.now image.items) }
+/// A draft of the image of a folder's tables that are consistent.
+pub fn load_draft<H: Shelf>(alloc: Global, shelf: &mut H, dir: &str) -> Result<Draft, LoadFault>
+    ensures built { IfOk result (λ draft. Builds (H.files shelf.old) dir.now (file_of_draft draft)) }
     ensures ends { IfErr result (IsMetWhereTold (H.files shelf.old) (λ files. served files dir.now)) }
     ensures named { IfErr result (NamesNeeded dir.now) }
     ensures shown { IfErr result (λ e. ShowsInCounts e (H.misses shelf.old) (H.misses shelf.new) (H.faults shelf.old)
@@ -285,7 +287,7 @@ pub fn load_image<H: Shelf>(alloc: Global, shelf: &mut H, dir: &str) -> Result<V
     ensures no_write_fault { H.write_faults shelf.new ≡ H.write_faults shelf.old }
 {
     let tables = load_tables(alloc, shelf, dir)?;
-    Ok(build(alloc, tables)?)
+    Ok(draft(alloc, tables)?)
 }
 
 /// The bytes of a built file.

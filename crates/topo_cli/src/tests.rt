@@ -5,7 +5,7 @@ ghost use Rattle.std.specs.Prelude.{◌≡◌, ◌<◌, ◌≤◌};
 mod long_cycle;
 mod outlines;
 
-use crate::trial::grid_image;
+use crate::trial::grid_draft;
 use crate::{Status, run};
 use bit_words::Steps;
 use image_words::{bytes_of, old_island, old_triangle, triangle};
@@ -1897,8 +1897,8 @@ fn all_told_well<L: Ledger>(
 fn shelf_of_files(alloc: Global) -> Result<Option<MemoryShelf<'static>>, Fail> {
     let mut shelf = MemoryShelf::new(alloc, &[]);
     shelf.add("map.pemb", &bytes_of(alloc, &old_island())?)?;
-    match grid_image(alloc, 4) {
-        Ok(image) => shelf.add("grid.pemb", &image)?,
+    match grid_draft(alloc, 4) {
+        Ok(draft) => shelf.add("grid.pemb", &draft.seal())?,
         Err(_) => return Ok(None),
     }
     Ok(Some(shelf))

@@ -11,12 +11,12 @@ use crate::counting::line_of_counts;
 use crate::dumping::{table_names, words_for_dump, write_tables};
 use crate::files::write_file;
 use crate::hopping::hops_line;
-use crate::image::open_image;
+use crate::image::open_draft;
 use crate::lines::{missing_text, refused_text, unlawful_text};
-use crate::load::{LoadFault, load_file, load_image};
+use crate::load::{LoadFault, load_draft, load_file};
 use crate::serving::serve_script;
 use crate::status::Status;
-use crate::trial::{grid_image, trial_lines};
+use crate::trial::{grid_draft, trial_lines};
 use bit_words::Steps;
 use file_parts::upgraded;
 use outline_text::border_text;
@@ -72,11 +72,11 @@ fn ask<H: Shelf, S: Source, K: Sink, L: Ledger>(
         shelf.old shelf.new) (source_call S.left S.faults script.old script.new)
         (sink_call K.held K.faults out.old out.new) steps.old steps.new) result }
 {
-    let image = match load_image(alloc, shelf, dir) {
-        Ok(image) => image,
+    let draft = match load_draft(alloc, shelf, dir) {
+        Ok(draft) => draft,
         Err(fault) => return end_loading(alloc, fault, out),
     };
-    let opened = open_image(&image, steps);
+    let opened = open_draft(&draft, steps);
     let served = Served::of(&opened);
     serve_script(alloc, served, script, out, steps)
 }
@@ -95,16 +95,17 @@ fn build_file<H: Shelf, K: Sink, L: Ledger>(
         (shelf_call H.files H.misses H.faults H.write_faults shelf.old shelf.new) script
         (sink_call K.held K.faults out.old out.new) steps.old steps.new) result }
 {
-    let image = match load_image(alloc, shelf, dir) {
-        Ok(image) => image,
+    let draft = match load_draft(alloc, shelf, dir) {
+        Ok(draft) => draft,
         Err(why) => return end_loading(alloc, why, out),
     };
-    let opened = open_image(&image, steps);
+    let opened = open_draft(&draft, steps);
     let served = Served::of(&opened);
     let line = match line_of_counts(alloc, "built", &served) {
         Ok(line) => line,
         Err(_) => return Status::Memory,
     };
+    let image = draft.seal();
     match write_file(shelf, file, &image) {
         Ok(()) => tell(out, &line, Status::Done),
         Err(Failed) => Status::WriteFault,
@@ -306,11 +307,11 @@ fn trial<K: Sink, L: Ledger>(alloc: Global, size: u32, out: &mut K, steps: &mut 
         → IsPromised (call_of (Some (Form.Trial size)) shelf script
         (sink_call K.held K.faults out.old out.new) steps.old steps.new) result }
 {
-    let image = match grid_image(alloc, size) {
-        Ok(image) => image,
+    let draft = match grid_draft(alloc, size) {
+        Ok(draft) => draft,
         Err(why) => return end_loading(alloc, why, out),
     };
-    let opened = open_image(&image, steps);
+    let opened = open_draft(&draft, steps);
     let served = Served::of(&opened);
     match trial_lines(alloc, size, served, steps) {
         Ok(text) => tell(out, &text, Status::Done),

@@ -4,6 +4,7 @@ ghost use Rattle.std.specs.Prelude.{◌≡◌, ◌≤◌, ◌+◌, ◌++◌, IfE
 ghost use Rattle.plane_model.specs.PlaneMap.{map_of};
 ghost use Rattle.map_totals.specs.Totals.{adjacent_total, face_total, most_total_words, node_total};
 ghost use Rattle.navigate.specs.Bound.{served_map};
+ghost use Rattle.pemb_file.specs.Draft.{file_of_draft};
 ghost use Rattle.topo_cli.specs.Loading.{BuildsGrid, IsMet, NamesNothing};
 ghost use Rattle.topo_cli.specs.Tables.{checked};
 ghost use Rattle.topo_cli.specs.Text.{trial_text};
@@ -13,19 +14,19 @@ use crate::counting::{line_of_counts, line_of_number};
 use crate::image::words_for_marks;
 use crate::load::LoadFault;
 use bit_words::Steps;
-use map_build::build;
+use map_build::draft;
 use map_maker::grid;
 use map_totals::{Totals, totals};
-use pemb_file::Served;
+use pemb_file::{Draft, Served};
 use scratch_region::Marks;
 use std::alloc::{AllocError, Global};
 use std::sync::ledger::Ledger;
 
-/// The image of the grid of a size.
-pub fn grid_image(alloc: Global, size: u32) -> Result<Vec<u8>, LoadFault>
+/// A draft of the image of the grid of a size.
+pub fn grid_draft(alloc: Global, size: u32) -> Result<Draft, LoadFault>
     requires some { 1 ≤ size }
     requires size { size ≤ 1000 }
-    ensures built { IfOk result (λ image. BuildsGrid size image.items) }
+    ensures built { IfOk result (λ draft. BuildsGrid size (file_of_draft draft)) }
     ensures ends { IfErr result (λ e. IsMet e (checked (grid_of size))) }
     ensures named { IfErr result NamesNothing }
 {
@@ -33,7 +34,7 @@ pub fn grid_image(alloc: Global, size: u32) -> Result<Vec<u8>, LoadFault>
         Ok(tables) => tables,
         Err(_) => return Err(LoadFault::Memory),
     };
-    Ok(build(alloc, tables)?)
+    Ok(draft(alloc, tables)?)
 }
 
 /// The lines of a grid's size, counts and sums.

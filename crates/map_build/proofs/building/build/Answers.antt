@@ -1,29 +1,7 @@
-use Rattle.std.proofs.Common.{subst, sym, ap, ◌∙◌}
+use Rattle.std.proofs.Common.{List, ℕ, subst, sym}
 use Rattle.plane_model.specs.Rows.{rows_of}
-use Rattle.plane_model.specs.PlaneMap.{Same}
-use Rattle.plane_model.proofs.AllFaults.{none-first_fault}
-use Rattle.file_laws.specs.Lawful.{is_whole, map_of_file}
-use Rattle.file_laws.specs.MapOfFile.{rows_of_contents}
-use Rattle.map_build.proofs.OfMap.{map_whole, map_stands}
+use Rattle.file_laws.specs.Lawful.{StandsFor}
 use Rattle.map_build.proofs.building.build.Goals as goal
 
-pub returns-in_err-gathered-clause-exactly : goal.returns-in_err-gathered-clause-exactly
-returns-in_err-gathered-clause-exactly c = none-first_fault (rows_of c.args.tables) c.requires.in_range
-
-pub returns-in_err-parts-clause-exactly : goal.returns-in_err-parts-clause-exactly
-returns-in_err-parts-clause-exactly c = none-first_fault (rows_of c.args.tables) c.requires.in_range
-
-pub returns-in_err-write_image-clause-exactly : goal.returns-in_err-write_image-clause-exactly
-returns-in_err-write_image-clause-exactly c = none-first_fault (rows_of c.args.tables) c.requires.in_range
-
-pub returns-clause-exactly : goal.returns-clause-exactly
-returns-clause-exactly c = none-first_fault (rows_of c.args.tables) c.requires.in_range
-
-pub write_image-requires-clause-whole : goal.write_image-requires-clause-whole
-write_image-requires-clause-whole c = ap is_whole (c.in_ok-parts.ensures.contents ∙ c.in_ok-gathered.ensures.contents) ∙ map_whole (rows_of c.args.tables) c.requires.in_range c.in_ok-gathered.ensures.consistent
-
 pub returns-clause-stands : goal.returns-clause-stands
-unfolding map_of_file
-returns-clause-stands c =
-    let t = rows_of c.args.tables in
-    subst (λ x. Same (rows_of_contents x) t) (sym (c.in_ok-write_image.ensures.contents ∙ (c.in_ok-parts.ensures.contents ∙ c.in_ok-gathered.ensures.contents))) (map_stands t c.requires.in_range c.in_ok-gathered.ensures.consistent)
+returns-clause-stands c = subst (λ (image : List ℕ). StandsFor image (rows_of c.args.tables)) (sym c.seal.ensures.file) c.in_ok-draft.ensures.stands

@@ -1,22 +1,7 @@
-use Rattle.std.proofs.Common.{ap, ◌∙◌}
-use Rattle.file_laws.specs.Held.{contents_of}
-use Rattle.pemb_file.proofs.Opened.{lawful_parts}
+use Rattle.file_laws.proofs.Lengths.{no_faults}
 use Rattle.pemb_file.proofs.opening.open_lawful.Goals as goal
 
-pub code_view-requires-clause-sound : goal.code_view-requires-clause-sound
-code_view-requires-clause-sound g c = (lawful_parts c.args.bytes.now _ c.lawful_image-image.ensures.words c.requires.lawful).sound
-
-pub code_view-requires-clause-directories : goal.code_view-requires-clause-directories
-code_view-requires-clause-directories g c = (lawful_parts c.args.bytes.now _ c.lawful_image-image.ensures.words c.requires.lawful).directories
-
-pub open_file-requires-clause-names : goal.open_file-requires-clause-names
-open_file-requires-clause-names g c = (lawful_parts c.args.bytes.now _ c.lawful_image-image.ensures.words c.requires.lawful).names
-
-pub open_file-requires-clause-regions : goal.open_file-requires-clause-regions
-open_file-requires-clause-regions g c = (lawful_parts c.args.bytes.now _ c.lawful_image-image.ensures.words c.requires.lawful).regions
-
-pub open_file-requires-clause-whole : goal.open_file-requires-clause-whole
-open_file-requires-clause-whole g c = (lawful_parts c.args.bytes.now _ c.lawful_image-image.ensures.words c.requires.lawful).whole
-
-pub returns-clause-contents : goal.returns-clause-contents
-returns-clause-contents g c = c.open_file.ensures ∙ ap contents_of c.lawful_image-image.ensures.words
+pub open_unchecked-requires : goal.open_unchecked-requires
+open_unchecked-requires g c =
+    let n = no_faults c.args.bytes.now c.requires.lawful in
+    record { right = record { front = n.front; counts = n.counts; content = n.content } }

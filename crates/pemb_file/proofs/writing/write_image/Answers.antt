@@ -2,5 +2,5 @@ use Rattle.pemb_file.specs.Parts.{contents_of_parts}
 use Rattle.file_laws.proofs.Rooms.{whole_room}
 use Rattle.pemb_file.proofs.writing.write_image.Goals as goal
 
-pub write-requires-clause-room : goal.write-requires-clause-room
-write-requires-clause-room c = whole_room (contents_of_parts c.args.parts.now) c.requires.whole
+pub draft_of-requires-clause-room : goal.draft_of-requires-clause-room
+draft_of-requires-clause-room c = whole_room (contents_of_parts c.args.parts.now) c.requires.whole

@@ -20,25 +20,25 @@ returns-in-Err g c = λ script idle.
 
 pub returns-in-Err-line_of_counts : goal.returns-in-Err-line_of_counts
 returns-in-Err-line_of_counts g c = λ script idle.
-    wanting _ (Form.Build c.args.dir.now c.args.file.now) (record { form = refl; unread = idle; kept = c.in-Ok.ensures.kept; counted = c.open_image-opened.ensures.grows }) refl
+    wanting _ (Form.Build c.args.dir.now c.args.file.now) (record { form = refl; unread = idle; kept = c.in-Ok.ensures.kept; counted = c.open_draft-opened.ensures.grows }) refl
 
 pub returns-in-Ok-write_file : goal.returns-in-Ok-write_file
 returns-in-Ok-write_file g c = λ script idle.
     let b = c.in-Ok.ensures.built in
     let same : map_of (map_of_file c.deref.result.now) ≡ map_of b.tables = ap (λ (x : List ℕ). map_of (map_of_file x)) c.deref.ensures.value ∙ b.is.stands.2 in
-    let line = c.in-Ok-line_of_counts.ensures ∙ ap (counts_line (codes "built")) (ap map_with c.of-served.ensures ∙ c.open_image-opened.ensures.map ∙ same) in
+    let line = c.in-Ok-line_of_counts.ensures ∙ ap (counts_line (codes "built")) (ap map_with c.of-served.ensures ∙ c.open_draft-opened.ensures.map ∙ same) in
     let Q : List ℕ → Type 0 = λ text. IsTold text status.Done c.tell.result (sink_call g.K.Sink.held g.K.Sink.faults c.args.out.now c.tell.new.out) in
     let held = written_since _ _ _ _ _ (Holds c.args.file.now) c.deref-2.ensures.value c.in-Ok.ensures.kept c.in-Ok-write_file.ensures.written in
     built _ c.args.dir.now c.args.file.now b.tables c.in-Ok.image.items _
-    (record { form = refl; are = b.are; consistent = b.consistent; unread = idle; grows = c.open_image-opened.ensures.grows })
-    b.is c.open_image-opened.ensures.few held
+    (record { form = refl; are = b.are; consistent = b.consistent; unread = idle; grows = c.open_draft-opened.ensures.grows })
+    b.is c.open_draft-opened.ensures.few held
     (subst Q (c.deref-in-Ok-write_file.ensures.value ∙ line) c.tell.ensures)
 
 pub returns : goal.returns
 returns g c = λ script idle.
     let b = c.in-Ok.ensures.built in
     image_unwritten _ c.args.dir.now c.args.file.now b.tables c.in-Ok.image.items
-    (record { form = refl; are = b.are; consistent = b.consistent; unread = idle; grows = c.open_image-opened.ensures.grows })
+    (record { form = refl; are = b.are; consistent = b.consistent; unread = idle; grows = c.open_draft-opened.ensures.grows })
     b.is
     (written_since _ _ _ _ _ (HoldsFront c.args.file.now) c.deref-2.ensures.value c.in-Ok.ensures.kept c.in-Err-write_file.ensures.part)
     (rose_since _ _ _ c.in-Ok.ensures.no_write_fault c.in-Err-write_file.ensures.rose) refl

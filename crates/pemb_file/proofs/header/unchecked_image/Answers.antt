@@ -2,12 +2,11 @@ use Rattle.std.proofs.Common.{◌≡◌, Option, None, Some, ap, sym, ◌∙◌}
 use Rattle.file_laws.specs.Layout.{counts_in}
 use Rattle.file_laws.specs.Faults.{count_fault}
 use Rattle.file_laws.specs.declared.fault.FileFault.{FileFault}
-use Rattle.file_laws.proofs.Lengths.{no_faults}
-use Rattle.pemb_file.proofs.header.lawful_image.Goals as goal
+use Rattle.pemb_file.proofs.header.unchecked_image.Goals as goal
 
 pub unreachable-requires : goal.unreachable-requires
 unreachable-requires g c =
-    let no : ◌≡◌ {A = Option FileFault} None (Some c.in-Err.field-0) = sym (no_faults c.args.bytes.now c.requires.lawful).front ∙ c.in-Err.ensures.fault in
+    let no : ◌≡◌ {A = Option FileFault} None (Some c.in-Err.field-0) = sym c.requires.right.front ∙ c.in-Err.ensures.fault in
     cc
 
 pub invariant_of-result : goal.invariant_of-result
@@ -16,5 +15,5 @@ invariant_of-result g c =
     record {
       counts = front.counts;
       size = front.size;
-      few = ap (λ ws. count_fault (counts_in ws)) c.in-Ok.ensures.words ∙ (no_faults c.args.bytes.now c.requires.lawful).counts;
+      few = ap (λ ws. count_fault (counts_in ws)) c.in-Ok.ensures.words ∙ c.requires.right.counts;
     }
