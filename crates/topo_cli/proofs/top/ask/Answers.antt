@@ -17,8 +17,7 @@ returns-in-Err g c =
 pub returns : goal.returns
 returns g c =
     let b = c.in-Ok.ensures.built in
-    let same : map_of (map_of_file c.deref.result.now) ≡ map_of b.tables = ap (λ (x : List ℕ). map_of (map_of_file x)) c.deref.ensures.value ∙ b.is.stands.2 in
-    served_as _ (Form.Ask c.args.dir.now) b.tables _ _ _ (ap map_with c.of-served.ensures ∙ c.open_draft-opened.ensures.map ∙ same)
+    served_as _ (Form.Ask c.args.dir.now) b.tables _ _ _ (ap map_with c.of-served.ensures ∙ c.open_draft-opened.ensures.map ∙ b.is.stands.2)
     (record {
       form = refl;
       reads = tt;

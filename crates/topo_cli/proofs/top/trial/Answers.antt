@@ -17,8 +17,7 @@ pub returns-in-Ok-trial_lines : goal.returns-in-Ok-trial_lines
 returns-in-Ok-trial_lines g c = λ shelf script untouched idle.
     let b = c.in-Ok.ensures.built in
     let t = grid_of c.args.size in
-    let same : map_of (map_of_file c.deref.result.now) ≡ map_of t = ap (λ (x : List ℕ). map_of (map_of_file x)) c.deref.ensures.value ∙ b.is.stands.2 in
-    let served = ap map_with c.of-served.ensures ∙ c.open_draft-opened.ensures.map ∙ same in
+    let served = ap map_with c.of-served.ensures ∙ c.open_draft-opened.ensures.map ∙ b.is.stands.2 in
     let L : PlaneMap → Type 0 = λ m. c.open_draft-opened.new.steps + (face_total m + node_total m + adjacent_total m) ≤ c.trial_lines.new.steps in
     let M : PlaneMap → Type 0 = λ m. c.trial_lines.new.steps ≤ c.open_draft-opened.new.steps + most_total_words m in
     let Q : List ℕ → Type 0 = λ text. IsTold text status.Done c.tell.result (sink_call g.K.Sink.held g.K.Sink.faults c.args.out.now c.tell.new.out) in
