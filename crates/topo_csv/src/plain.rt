@@ -1,6 +1,6 @@
 //! The records of a table without quotes, where a comma ends each field but the last, and the end of the line that.
 
-ghost use Rattle.std.specs.Prelude.{◌≡◌, ◌<◌, ◌≤◌, ◌^◌, IfOk, IfSome, IsTrue, MatchOption, Some, [], ◌∷◌, length, map, take, position, unwrap_or};
+ghost use Rattle.std.specs.Prelude.{◌≡◌, ◌<◌, ◌≤◌, ◌^◌, IfOk, IfSome, IsTrue, MatchOption, Some, [], ◌∷◌, length, map, take};
 ghost use Rattle.std.specs.List.{position_or_len};
 ghost use Rattle.csv.specs.Machine.{next_record};
 ghost use Rattle.csv.specs.Reading.{default_config, records, strip_bom};
@@ -84,8 +84,17 @@ struct Cut<'a> {
     behind: &'a [u8],
 }
 
-/// The field at the front of some bytes.
-fn cut_field<'a>(bytes: &'a [u8]) -> Cut<'a>
+/// The field at the front of some bytes, whatever it is.
+fn cut_any<'a>(bytes: &'a [u8]) -> Cut<'a>
+    ensures { IsCut bytes.now (text_of result.field) result.behind.now }
+{
+    let (text, behind) = bytes.split_at(field_len(bytes));
+    let field = Field::new(text);
+    Cut { field, behind }
+}
+
+/// The same, where it is likely digits.
+fn cut_digits<'a>(bytes: &'a [u8]) -> Cut<'a>
     ensures { IsCut bytes.now (text_of result.field) result.behind.now }
 {
     let digits = front_digits(bytes);
@@ -94,9 +103,31 @@ fn cut_field<'a>(bytes: &'a [u8]) -> Cut<'a>
         let field = Field::of_digits(text, digits.number);
         return Cut { field, behind };
     }
-    let (text, behind) = bytes.split_at(field_len(bytes));
-    let field = Field::new(text);
-    Cut { field, behind }
+    cut_any(bytes)
+}
+
+/// The same, where it begins with a `-` and is likely digits behind that.
+fn cut_negative_digits<'a>(bytes: &'a [u8], unsigned: &'a [u8]) -> Cut<'a>
+    requires { bytes.now ≡ 45 ∷ unsigned.now }
+    ensures { IsCut bytes.now (text_of result.field) result.behind.now }
+{
+    let digits = front_digits(unsigned);
+    let (text, behind) = bytes.split_at(1 + digits.count);
+    if is_end(behind) {
+        let field = Field::of_negative_digits(text, digits.number);
+        return Cut { field, behind };
+    }
+    cut_any(bytes)
+}
+
+/// The field at the front of some bytes.
+fn cut_field<'a>(bytes: &'a [u8]) -> Cut<'a>
+    ensures { IsCut bytes.now (text_of result.field) result.behind.now }
+{
+    match bytes.split_first() {
+        Some((b'-', unsigned)) => cut_negative_digits(bytes, unsigned),
+        _ => cut_digits(bytes),
+    }
 }
 
 /// These bytes without the ends of lines at their front.
