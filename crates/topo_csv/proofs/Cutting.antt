@@ -1,5 +1,5 @@
 -- The records of bytes without quotes, cut field by field.
-use Rattle.std.proofs.Common.{◌≡◌, ℕ, zero, suc, ◌+◌, ◌-◌, ◌*◌, ◌<◌, ◌≤◌, inl, inr, Bool, true, false, not, ◌&&◌, ◌||◌, ◌==◌, List, [], ◌∷◌, ◌++◌, length, take, drop, refl, sym, ap, ◌∙◌, arith, Option, Some, None, add-one, slice_index_or, nat_eq, is_some}
+use Rattle.std.proofs.Common.{◌≡◌, ℕ, zero, suc, ◌+◌, ◌-◌, ◌*◌, ◌^◌, ◌<◌, ◌≤◌, inl, inr, Bool, true, false, not, ◌&&◌, ◌||◌, ◌==◌, List, [], ◌∷◌, ◌++◌, length, take, drop, refl, sym, ap, ◌∙◌, arith, Option, Some, None, add-one, slice_index_or, nat_eq, is_some}
 use Rattle.std.specs.List.{list_all, position_or_len}
 use Rattle.std.specs.Char.{is_ascii_digit}
 use Rattle.std.proofs.lemmas.Bool.{cases_Bool, ne_eqb}
@@ -12,6 +12,7 @@ use Rattle.csv.specs.declared.parser.State.{State}
 use Rattle.csv.specs.declared.parser.State.TheVariants as st
 use Rattle.csv.specs.declared.parser.Action.TheVariants as act
 use Rattle.csv.specs.declared.parser.Terminator.TheVariants as term
+use Rattle.std.proofs.Math.Nat.{pow-le-pow_right, pow-succ'}
 use Rattle.std.specs.Cmp.Lexicographic.{pointwise}
 use Rattle.memchr.specs.Find.{IsFirstByte, is_byte}
 use Rattle.topo_base.specs.Spelling.{digits_behind}
@@ -250,6 +251,13 @@ digit_more bytes k m lt h digit = ap (digits_behind 0) (take_more bytes k 0 lt) 
 
 pub digit_value : (b : ℕ) → is_ascii_digit b ≡ true → b - 48 ≤ 9
 digit_value b h = grind (arith, nat_tests)
+
+-- so many digits make no greater number
+pub digits_within : (k n most : ℕ) → n < 10 ^ k → k ≤ most → n < 10 ^ most
+digits_within k n most small le = let more : 10 ^ k ≤ 10 ^ most = pow-le-pow_right (omega arith) le in omega arith
+
+pub one_digit_within : (k n d : ℕ) → n < 10 ^ k → d ≤ 9 → 10 * n + d < 10 ^ (k + 1)
+one_digit_within k n d small nine = let more : 10 ^ (k + 1) ≡ 10 * 10 ^ k = ap (λ n. 10 ^ n) (add-one k) ∙ pow-succ' 10 k in omega arith
 
 -- a field of digits, and any other
 pub cut_behind_digits : (bytes text behind : List ℕ) (k m : ℕ) → text ≡ take k bytes → behind ≡ drop k bytes → digits_behind 0 (take k bytes) ≡ Some m → is_end_before behind ≡ true → IsCut bytes text behind

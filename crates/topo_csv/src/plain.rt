@@ -13,8 +13,8 @@ use crate::field::Field;
 use std::alloc::AllocError;
 use topo_base::IdNumber;
 
-/// A number below it may have one more digit and is still below 10^18, so it is in range.
-const LIMIT: IdNumber = 100_000_000_000_000_000;
+/// So many digits make a number in range, whatever they are.
+const MOST_DIGITS: usize = 18;
 
 /// The byte order mark in UTF-8.
 const MARK: [u8; 3] = [0xEF, 0xBB, 0xBF];
@@ -27,15 +27,16 @@ struct Digits {
     number: IdNumber,
 }
 
-/// The digits at the front of some bytes, as far as their number is small.
+/// The digits at the front of some bytes, no more than `MOST_DIGITS`.
 fn front_digits(bytes: &[u8]) -> Digits
     ensures within { result.count ≤ length bytes.now }
     ensures spelled { digits_behind 0 (take result.count bytes.now) ≡ Some result.number }
     ensures small { result.number < 10 ^ 18 }
 {
+    let most = bytes.len().min(MOST_DIGITS);
     let mut count = 0;
     let mut number = 0;
-    while count < bytes.len() && number < LIMIT && bytes[count].is_ascii_digit() {
+    while count < most && bytes[count].is_ascii_digit() {
         number = 10 * number + IdNumber::from(bytes[count] - b'0');
         count += 1;
     }
