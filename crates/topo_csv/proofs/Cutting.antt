@@ -1,5 +1,5 @@
 -- The records of bytes without quotes, cut field by field.
-use Rattle.std.proofs.Common.{◌≡◌, ℕ, zero, suc, ◌+◌, ◌-◌, ◌*◌, ◌<◌, ◌≤◌, inl, inr, Bool, true, false, not, ◌&&◌, ◌||◌, ◌==◌, List, [], ◌∷◌, ◌++◌, length, take, drop, refl, sym, ap, ◌∙◌, arith, Option, Some, None, add-one, slice_index_or, nat_lt, nat_eq, is_some, ℤ, pos, option_map}
+use Rattle.std.proofs.Common.{◌≡◌, ℕ, zero, suc, ◌+◌, ◌-◌, ◌*◌, ◌^◌, ◌<◌, ◌≤◌, inl, inr, Bool, true, false, not, ◌&&◌, ◌||◌, ◌==◌, List, [], ◌∷◌, ◌++◌, length, take, drop, refl, sym, ap, ◌∙◌, arith, Option, Some, None, add-one, slice_index_or, nat_eq, is_some}
 use Rattle.std.specs.List.{list_all, position_or_len}
 use Rattle.std.specs.Char.{is_ascii_digit}
 use Rattle.std.proofs.lemmas.Bool.{cases_Bool, ne_eqb}
@@ -12,9 +12,10 @@ use Rattle.csv.specs.declared.parser.State.{State}
 use Rattle.csv.specs.declared.parser.State.TheVariants as st
 use Rattle.csv.specs.declared.parser.Action.TheVariants as act
 use Rattle.csv.specs.declared.parser.Terminator.TheVariants as term
+use Rattle.std.proofs.Math.Nat.{pow-le-pow_right, pow-succ'}
 use Rattle.std.specs.Cmp.Lexicographic.{pointwise}
 use Rattle.memchr.specs.Find.{IsFirstByte, is_byte}
-use Rattle.topo_base.specs.Spelling.{digits_behind, positive_number, signed_number}
+use Rattle.topo_base.specs.Spelling.{digits_behind}
 use Rattle.topo_csv.specs.Plain.{begins_record, ends_field, ends_line, has_no_quote, is_end_before, is_quote, IsCut}
 use Rattle.topo_csv.proofs.Records.{no_records, read_between, records_behind}
 
@@ -251,10 +252,26 @@ digit_more bytes k m lt h digit = ap (digits_behind 0) (take_more bytes k 0 lt) 
 pub digit_value : (b : ℕ) → is_ascii_digit b ≡ true → b - 48 ≤ 9
 digit_value b h = grind (arith, nat_tests)
 
+-- so many digits make no greater number
+pub digits_within : (k n most : ℕ) → n < 10 ^ k → k ≤ most → n < 10 ^ most
+digits_within k n most small le = let more : 10 ^ k ≤ 10 ^ most = pow-le-pow_right (omega arith) le in omega arith
+
+pub one_digit_within : (k n d : ℕ) → n < 10 ^ k → d ≤ 9 → 10 * n + d < 10 ^ (k + 1)
+one_digit_within k n d small nine = let more : 10 ^ (k + 1) ≡ 10 * 10 ^ k = ap (λ n. 10 ^ n) (add-one k) ∙ pow-succ' 10 k in omega arith
+
 -- a field of digits, and any other
 pub cut_behind_digits : (bytes text behind : List ℕ) (k m : ℕ) → text ≡ take k bytes → behind ≡ drop k bytes → digits_behind 0 (take k bytes) ≡ Some m → is_end_before behind ≡ true → IsCut bytes text behind
 cut_behind_digits bytes text behind k m front back spelled ended =
     record { joined = rw (front, back) (sym (take-append-drop k bytes)); inside = rw front (digits_inside 0 (take k bytes) m spelled); ended = ended }
+
+take_sign : (k : ℕ) (xs : List ℕ) → take (1 + k) (45 ∷ xs) ≡ 45 ∷ take k xs
+take_sign k xs = let next : 1 + k ≡ suc k = omega arith in rw next refl
+
+-- the same behind a sign
+pub cut_behind_sign : (bytes unsigned text behind : List ℕ) (k m : ℕ) → bytes ≡ 45 ∷ unsigned → text ≡ take (1 + k) bytes → behind ≡ drop (1 + k) bytes → digits_behind 0 (take k unsigned) ≡ Some m → is_end_before behind ≡ true → IsCut bytes text behind
+cut_behind_sign bytes unsigned text behind k m is front back spelled ended =
+    let text_is : text ≡ 45 ∷ take k unsigned = front ∙ ap (take (1 + k)) is ∙ take_sign k unsigned in
+    record { joined = rw (front, back) (sym (take-append-drop (1 + k) bytes)); inside = rw text_is (digits_inside 0 (take k unsigned) m spelled); ended = ended }
 
 pub len_within : (bytes : List ℕ) → position_or_len ends_field bytes ≤ length bytes
 len_within [] = omega arith
@@ -283,30 +300,6 @@ pub end_of_bytes : (bytes : List ℕ) (k all : ℕ) → length bytes ≤ k → k
 end_of_bytes bytes k all le e =
     let here = ap (position_or_len ends_field) (drop_all k bytes le) in
     omega arith
-
--- a sign is no digit
-no_sign : (bytes : List ℕ) → positive_number (45 ∷ bytes) ≡ None
-unfolding digits_behind
-no_sign bytes = elim (cases_Bool (length (45 ∷ bytes) == 0)) [
-  | inl e ↦ rw e refl
-  | inr e ↦ elim (cases_Bool (nat_lt 1 (length (45 ∷ bytes)))) [ inl f ↦ rw (e, f) refl | inr f ↦ rw (e, f) refl ]
-]
-
--- a number that is walked forward is that of a signed edge
-pub signed_there : (text : List ℕ) (z : ℤ) → Some z ≡ option_map pos (positive_number text) → Some z ≡ signed_number text
-unfolding digits_behind
-signed_there [] z h = let no : ◌≡◌ {A = Option ℤ} (Some z) None = h in cc
-signed_there (b ∷ bytes) z h = elim (cases_Bool (b == 45)) [
-  | inl e ↦
-      let is : b ≡ 45 = grind (arith, nat_tests) in
-      let no : ◌≡◌ {A = Option ℤ} (Some z) None = h ∙ ap (λ c. option_map pos (positive_number (c ∷ bytes))) is ∙ ap (option_map pos) (no_sign bytes) in
-      cc
-  | inr e ↦ rw e h
-]
-
-pub not_signed_else : (text : List ℕ) (o : Option ℤ) → o ≡ option_map pos (positive_number text) → (o ≡ None → ⊥) → o ≡ signed_number text
-not_signed_else text None e some = absurd (some refl)
-not_signed_else text (Some z) e some = signed_there text z e
 
 -- bytes behind a byte order mark
 pub marked : (bytes rest : List ℕ) → pointwise nat_eq (take 3 bytes) (0xEF ∷ 0xBB ∷ 0xBF ∷ []) ≡ true → rest ≡ drop 3 bytes → rest ≡ strip_bom bytes

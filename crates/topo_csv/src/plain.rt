@@ -1,6 +1,6 @@
 //! The records of a table without quotes, where a comma ends each field but the last, and the end of the line that.
 
-ghost use Rattle.std.specs.Prelude.{◌≡◌, ◌<◌, ◌≤◌, ◌^◌, IfOk, IfSome, IsTrue, MatchOption, Some, [], ◌∷◌, length, map, take, position, unwrap_or};
+ghost use Rattle.std.specs.Prelude.{◌≡◌, ◌<◌, ◌≤◌, ◌^◌, IfOk, IfSome, IsTrue, MatchOption, Some, [], ◌∷◌, length, map, take};
 ghost use Rattle.std.specs.List.{position_or_len};
 ghost use Rattle.csv.specs.Machine.{next_record};
 ghost use Rattle.csv.specs.Reading.{default_config, records, strip_bom};
@@ -13,8 +13,8 @@ use crate::field::Field;
 use std::alloc::AllocError;
 use topo_base::IdNumber;
 
-/// A number below it may have one more digit and is still below 10^18, so it is in range.
-const LIMIT: IdNumber = 100_000_000_000_000_000;
+/// So many digits make a number in range, whatever they are.
+const MOST_DIGITS: usize = 18;
 
 /// The byte order mark in UTF-8.
 const MARK: [u8; 3] = [0xEF, 0xBB, 0xBF];
@@ -27,15 +27,16 @@ struct Digits {
     number: IdNumber,
 }
 
-/// The digits at the front of some bytes, as far as their number is small.
+/// The digits at the front of some bytes, no more than `MOST_DIGITS`.
 fn front_digits(bytes: &[u8]) -> Digits
     ensures within { result.count ≤ length bytes.now }
     ensures spelled { digits_behind 0 (take result.count bytes.now) ≡ Some result.number }
     ensures small { result.number < 10 ^ 18 }
 {
+    let most = bytes.len().min(MOST_DIGITS);
     let mut count = 0;
     let mut number = 0;
-    while count < bytes.len() && number < LIMIT && bytes[count].is_ascii_digit() {
+    while count < most && bytes[count].is_ascii_digit() {
         number = 10 * number + IdNumber::from(bytes[count] - b'0');
         count += 1;
     }
@@ -84,8 +85,17 @@ struct Cut<'a> {
     behind: &'a [u8],
 }
 
-/// The field at the front of some bytes.
-fn cut_field<'a>(bytes: &'a [u8]) -> Cut<'a>
+/// The field at the front of some bytes, whatever it is.
+fn cut_any<'a>(bytes: &'a [u8]) -> Cut<'a>
+    ensures { IsCut bytes.now (text_of result.field) result.behind.now }
+{
+    let (text, behind) = bytes.split_at(field_len(bytes));
+    let field = Field::new(text);
+    Cut { field, behind }
+}
+
+/// The same, where it is likely digits.
+fn cut_digits<'a>(bytes: &'a [u8]) -> Cut<'a>
     ensures { IsCut bytes.now (text_of result.field) result.behind.now }
 {
     let digits = front_digits(bytes);
@@ -94,9 +104,31 @@ fn cut_field<'a>(bytes: &'a [u8]) -> Cut<'a>
         let field = Field::of_digits(text, digits.number);
         return Cut { field, behind };
     }
-    let (text, behind) = bytes.split_at(field_len(bytes));
-    let field = Field::new(text);
-    Cut { field, behind }
+    cut_any(bytes)
+}
+
+/// The same, where it begins with a `-` and is likely digits behind that.
+fn cut_negative_digits<'a>(bytes: &'a [u8], unsigned: &'a [u8]) -> Cut<'a>
+    requires { bytes.now ≡ 45 ∷ unsigned.now }
+    ensures { IsCut bytes.now (text_of result.field) result.behind.now }
+{
+    let digits = front_digits(unsigned);
+    let (text, behind) = bytes.split_at(1 + digits.count);
+    if is_end(behind) {
+        let field = Field::of_negative_digits(text, digits.number);
+        return Cut { field, behind };
+    }
+    cut_any(bytes)
+}
+
+/// The field at the front of some bytes.
+fn cut_field<'a>(bytes: &'a [u8]) -> Cut<'a>
+    ensures { IsCut bytes.now (text_of result.field) result.behind.now }
+{
+    match bytes.split_first() {
+        Some((b'-', unsigned)) => cut_negative_digits(bytes, unsigned),
+        _ => cut_digits(bytes),
+    }
 }
 
 /// These bytes without the ends of lines at their front.
