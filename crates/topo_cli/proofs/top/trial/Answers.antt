@@ -31,7 +31,7 @@ returns-in-Ok-trial_lines g c = λ shelf script untouched idle.
     (λ wrote. record { wrote = wrote; least = omega (arith, start, walked); most = omega (arith, opened, most) })
     (λ part. part)
     untouched.files untouched.files
-    (subst Q (c.deref-in-Ok-trial_lines.ensures.value ∙ c.in-Ok-trial_lines.ensures.text ∙ ap (trial_text c.args.size) served) c.tell.ensures)
+    (subst Q (c.deref.ensures.value ∙ c.in-Ok-trial_lines.ensures.text ∙ ap (trial_text c.args.size) served) c.tell.ensures)
 
 pub returns : goal.returns
 returns g c = λ shelf script untouched idle.
