@@ -1,7 +1,7 @@
 //! The walk round a spanning tree of each component of a rotation system.
 #![tactic(auto)]
 
-ghost use Rattle.std.specs.Prelude.{◌≡◌, ℕ, ◌+◌, ◌*◌, ◌/◌, ◌<◌, ◌≤◌, [], length, cond, not, true, slice_set, IfOk, IfErr, OnOk, IsTrue, MatchOption, Bool};
+ghost use Rattle.std.specs.Prelude.{◌≡◌, ℕ, ◌+◌, ◌*◌, ◌/◌, ◌<◌, ◌≤◌, length, cond, not, true, slice_set, IfOk, IfErr, OnOk, IsTrue, MatchOption, Bool};
 ghost use Rattle.plane_model.specs.Component.{is_plane};
 ghost use Rattle.rotation_check.specs.Darts.{IsRotation, map_of_rotation};
 ghost use Rattle.spanning_pair.specs.Crossings.{ArePairs, OthersNest, IsFirstCrossing};
@@ -142,21 +142,6 @@ fn walk(
     }
 }
 
-/// Lists with memory for so many places, of which none is listed yet.
-fn no_places(alloc: Global, places: usize) -> Result<Tour, AllocError>
-    ensures darts { IfOk result (λ t. t.darts.items ≡ []) }
-    ensures tree { IfOk result (λ t. t.tree.items ≡ []) }
-    ensures first { IfOk result (λ t. t.first.items ≡ []) }
-    ensures starts { IfOk result (λ t. t.starts.items ≡ []) }
-{
-    Ok(Tour {
-        darts: Vec::with_capacity(alloc, places)?,
-        tree: Vec::with_capacity(alloc, places)?,
-        first: Vec::with_capacity(alloc, places)?,
-        starts: Vec::new(alloc),
-    })
-}
-
 /// The walk of the component of each start, one after another.
 fn walks(alloc: Global, rotation: &Rotation, starts: &[u32]) -> Result<Tour, AllocError>
     requires starts { AreComponentStarts rotation.now starts.now }
@@ -168,7 +153,12 @@ fn walks(alloc: Global, rotation: &Rotation, starts: &[u32]) -> Result<Tour, All
     let nodes = rotation.nodes() as usize;
     let mut marks = new_edges(alloc, edges)?;
     let mut visited = vec![in alloc; false; nodes]?;
-    let mut tour = no_places(alloc, 2 * edges)?;
+    let mut tour = Tour {
+        darts: Vec::new(alloc),
+        tree: Vec::new(alloc),
+        first: Vec::new(alloc),
+        starts: Vec::new(alloc),
+    };
     tour.starts.push(0)?;
     for start in starts {
         walk(rotation, *start, &mut marks, &mut visited, &mut tour)?;

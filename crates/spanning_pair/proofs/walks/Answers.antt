@@ -11,8 +11,8 @@ use Rattle.spanning_pair.proofs.walks.Goals as goal
 pub loop-start-init : goal.loop-start-init
 loop-start-init c =
     touring_start (length c.args.rotation.now.edges) (length c.args.rotation.now.nodes) (next_dart c.args.rotation.now) (node_row c.args.rotation.now) c.args.starts.now
-    c.in_ok-tour.tour.darts.items c.in_ok-tour.tour.tree.items c.in_ok-tour.tour.first.items c.push.new.self.items c.in_ok-marks.marks.items c.in_ok-visited.visited.items
-    c.in_ok-tour.ensures.darts c.in_ok-tour.ensures.tree c.in_ok-tour.ensures.first (c.in_ok-push.ensures.items ∙ ap (λ xs. xs ++ 0 ∷ []) c.in_ok-tour.ensures.starts)
+    c.new.result.items c.new-2.result.items c.new-3.result.items c.push.new.self.items c.in_ok-marks.marks.items c.in_ok-visited.visited.items
+    c.new.ensures.items c.new-2.ensures.items c.new-3.ensures.items (c.in_ok-push.ensures.items ∙ ap (λ xs. xs ++ 0 ∷ []) c.new-4.ensures.items)
     (c.in_ok-marks.ensures ∙ ap (λ n. replicate n New) c.edges-edges.ensures.edges) (search rules)
 
 pub walk-requires-clause-clean : goal.walk-requires-clause-clean
