@@ -10,10 +10,11 @@ use Rattle.orbits.specs.Points.{has}
 use Rattle.orbits.proofs.Numbers.{place_in}
 use Rattle.id_names.specs.Cycles.{IsPlacePermutation, cycle, least_member, mark_at, marks_of, marked, back_pointers}
 use Rattle.id_names.specs.Inverse.{stride, walk, back_from, number_at}
+use Rattle.id_names.specs.Making.{spacing}
 use Rattle.id_names.proofs.Members.{members_of}
-use Rattle.id_names.proofs.Pointers.{stride_some, length-marks, mark_is, value_at}
+use Rattle.id_names.proofs.Pointers.{spacing_some, length-marks, mark_is, value_at}
 use Rattle.id_names.proofs.Sweeping.{mark_of_member, own, back, on_same}
-use Rattle.id_names.proofs.Walks.{walk_here, walk_jumps, walk_follows}
+use Rattle.id_names.proofs.Walks.{walk_here, walk_jumps, walk_follows, walk_longer}
 
 -- the least of some numbers is one of them, and none is below it
 least_in : (a : ℕ) (xs : List ℕ) → (fold min a xs ≡ a) ⊎ (has (λ x y. x == y) xs (fold min a xs) ≡ true)
@@ -241,24 +242,24 @@ module _ (places : List ℕ) (are : IsPlacePermutation places) (first : ℕ) (wi
       from_multiple p (suc v) f more a i t e above near is = omega arith
 
   -- the walk from the place of a member comes to the member
-  from_place : (a : ℕ) → target ≡ get_or xs a 0 → (a ≡ i + 1) × (a < length xs) ⊎ (a ≡ 0) × (i + 1 ≡ length xs) → s ≡ stride (length places) → number_at places (marked places s) (back_pointers places s) target ≡ Some (get_or xs i 0)
-  from_place a e at is =
-      ap (λ n. walk places (marked places s) (back_pointers places s) target (n + 1) true target) (sym is)
-      ∙ ap (λ x. walk places (marked places s) (back_pointers places s) target (s + 1) true x) e
-      ∙ elim (cases_lt s (length xs)) [ inl many ↦ many_members many a at | inr few ↦ few_members few a at ]
+  from_place : (a : ℕ) → target ≡ get_or xs a 0 → (a ≡ i + 1) × (a < length xs) ⊎ (a ≡ 0) × (i + 1 ≡ length xs) → s ≤ stride (length places) → number_at places (marked places s) (back_pointers places s) target ≡ Some (get_or xs i 0)
+  from_place a e at near =
+      walk_longer places (marked places s) (back_pointers places s) target (s + 1) (stride (length places) + 1) target true (get_or xs i 0) (omega arith)
+      (ap (λ x. walk places (marked places s) (back_pointers places s) target (s + 1) true x) e
+      ∙ elim (cases_lt s (length xs)) [ inl many ↦ many_members many a at | inr few ↦ few_members few a at ])
 
-  pub member_found : s ≡ stride (length places) → number_at places (marked places s) (back_pointers places s) target ≡ Some (get_or xs i 0)
-  member_found is =
+  pub member_found : s ≤ stride (length places) → number_at places (marked places s) (back_pointers places s) target ≡ Some (get_or xs i 0)
+  member_found near =
       let m = members_of places are first within in
       elim (cases_lt (i + 1) (length xs)) [
-        | inl more ↦ from_place (i + 1) (m.follows i more) (inl (refl, more)) is
-        | inr over ↦ (let e : i + 1 ≡ length xs = omega arith in from_place 0 (m.ends i e ∙ sym m.begins) (inr (refl, e)) is)
+        | inl more ↦ from_place (i + 1) (m.follows i more) (inl (refl, more)) near
+        | inr over ↦ (let e : i + 1 ≡ length xs = omega arith in from_place 0 (m.ends i e ∙ sym m.begins) (inr (refl, e)) near)
       ]
 
 -- and so it does from the place of each number
-pub comes_back : (places : List ℕ) → IsPlacePermutation places → (k : ℕ) → k < length places → number_at places (marked places (stride (length places))) (back_pointers places (stride (length places))) (get_or places k 0) ≡ Some k
+pub comes_back : (places : List ℕ) → IsPlacePermutation places → (k : ℕ) → k < length places → number_at places (marked places (spacing (length places))) (back_pointers places (spacing (length places))) (get_or places k 0) ≡ Some k
 comes_back places are k h =
-    let s = stride (length places) in
+    let s = spacing (length places) in
     let first = least_member places k in
     let within : first < length places = omega (arith, least_most k (cycle places k)) in
     let on_first : has (λ x y. x == y) (cycle places k) first ≡ true = elim (least_in k (cycle places k)) [
@@ -268,4 +269,4 @@ comes_back places are k h =
     let least : (y : ℕ) → has (λ x y. x == y) (cycle places first) y ≡ true → first ≤ y = λ y on. least_lower k (cycle places k) y (on_same places are s k first y h on_first on) in
     let at = place_in (cycle places first) k (back places are s k first h on_first) in
     subst (λ x. number_at places (marked places s) (back_pointers places s) (get_or places x 0) ≡ Some x) at.2
-    (member_found places are first within least s (stride_some (length places)) at.0 at.1 refl)
+    (member_found places are first within least s (spacing_some (length places)) at.0 at.1 (omega arith))

@@ -6,8 +6,7 @@ use Rattle.std.proofs.lemmas.List.FromFn.{length-map-range_with_len}
 use Rattle.bit_words.specs.Bits.{rank, same}
 use Rattle.bit_words.specs.Lists.{tabulate}
 use Rattle.id_names.specs.Cycles.{mark_of, marks_of, marked}
-use Rattle.id_names.specs.Inverse.{stride}
-use Rattle.id_names.specs.Making.{made, below, rising, places_of}
+use Rattle.id_names.specs.Making.{made, below, rising, places_of, spacing}
 use Rattle.id_names.proofs.Pointers.{ones_of_values}
 
 length-rising : (ids : List ℕ) → length (rising ids) ≡ length ids
@@ -24,7 +23,7 @@ length-places low ids = length-map ids (below ids)
 pub length-made_marks : (low : ℕ) (ids : List ℕ) → length (made low ids).marks ≡ length ids
 unfolding tabulate
 length-made_marks low ids =
-    let s = stride (length ids) in
+    let s = spacing (length ids) in
     length-map (marks_of (places_of ids) s) is_some ∙ length-map-range_with_len (mark_of (places_of ids) s) 0 (length (places_of ids)) ∙ length-places low ids
 
 take_all : {X : Type 0} (xs : List X) → take (length xs) xs ≡ xs
@@ -35,5 +34,5 @@ take_all (x ∷ xs) = ap (λ ys. x ∷ ys) (take_all xs)
 pub as_many_marks : (low : ℕ) (ids : List ℕ) → rank true (made low ids).marks (length (made low ids).marks) ≡ length (made low ids).back
 unfolding rank
 as_many_marks low ids =
-    let s = stride (length ids) in
+    let s = spacing (length ids) in
     ap (count_by (same true)) (take_all (marked (places_of ids) s)) ∙ ones_of_values (marks_of (places_of ids) s)

@@ -9,8 +9,7 @@ use Rattle.bit_words.proofs.Finds.{find-none}
 use Rattle.rank_select.specs.Counts.{counts_of}
 use Rattle.id_names.specs.Cycles.{marked, back_pointers}
 use Rattle.id_names.specs.Faults.{wrong_count, other_ones, is_rising, is_ordered, first_failing, name_fault}
-use Rattle.id_names.specs.Inverse.{stride}
-use Rattle.id_names.specs.Making.{made, rising, low_parts, high_bits, places_of}
+use Rattle.id_names.specs.Making.{made, rising, low_parts, high_bits, places_of, spacing}
 use Rattle.id_names.specs.Names.{AreDistinctIds}
 use Rattle.id_names.specs.RisingNames.{bound_of, id_at, number_at, ids_by_number}
 use Rattle.id_names.specs.declared.sorted.Named.{Named}
@@ -73,7 +72,7 @@ module _ (low : ℕ) (ids : List ℕ) (names : AreDistinctIds (bound_of (length 
       failing_none (is_ordered (places_of ids) (number_at (made low ids))) (length (places_of ids)) (λ k h.
       ordered_test (places_of ids) (number_at (made low ids)) k (record {
         within = are.below k h;
-        found = subst (λ n. number_at (record { high = high_bits low ids; lows = low_parts low ids; low = low; places = places_of ids; marks = marked (places_of ids) (stride n); back = back_pointers (places_of ids) (stride n) }) (get_or (places_of ids) k 0) ≡ Some k) many (comes_back (places_of ids) are k h);
+        found = subst (λ n. number_at (record { high = high_bits low ids; lows = low_parts low ids; low = low; places = places_of ids; marks = marked (places_of ids) (spacing n); back = back_pointers (places_of ids) (spacing n) }) (get_or (places_of ids) k 0) ≡ Some k) many (comes_back (places_of ids) are k h);
       }))
 
   pub no_fault : name_fault (made low ids) (counts_of (made low ids).high) (counts_of (made low ids).marks) ≡ None

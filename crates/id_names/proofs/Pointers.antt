@@ -13,18 +13,21 @@ use Rattle.bit_words.specs.Digits.{digits}
 use Rattle.bit_words.specs.Lists.{tabulate}
 use Rattle.bit_words.proofs.DigitLaws.{digits-pow}
 use Rattle.id_names.specs.Cycles.{IsPlacePermutation, cycle, least_member, mark_at, mark_of, marks_of, marked, back_pointers}
-use Rattle.id_names.specs.Making.{place_width}
+use Rattle.id_names.specs.Making.{place_width, spacing}
 use Rattle.id_names.specs.Inverse.{stride}
 use Rattle.id_names.proofs.Counting.{count_yes, count_no}
 use Rattle.id_names.proofs.DigitBounds.{below_power}
 use Rattle.id_names.proofs.Members.{members_of}
 
--- the stride and the width of a place
-pub stride_some : (c : ℕ) → 1 ≤ stride c
+-- marks stand apart, and the width of a place
+stride_some : (c : ℕ) → 1 ≤ stride c
 stride_some c = elim (cases_lt 0 (digits (c + 2))) [
   | inl some ↦ some
   | inr none ↦ (let z : digits (c + 2) ≡ 0 = omega arith in let e : 2 ^ digits (c + 2) ≡ 1 = ap (λ d. 2 ^ d) z in absurd (omega (arith, below_power (c + 2))))
 ]
+
+pub spacing_some : (c : ℕ) → 1 ≤ spacing c
+spacing_some c = omega (arith, stride_some c)
 
 pub width_narrow : (c : ℕ) → c ≤ 16777216 → place_width c ≤ 31
 width_narrow c h = let d = digits-pow c 25 (omega arith) in omega arith

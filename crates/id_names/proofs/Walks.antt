@@ -1,10 +1,13 @@
 -- The steps of the walk from a place.
-use Rattle.std.proofs.Common.{◌≡◌, ◌≢◌, ℕ, zero, suc, ◌+◌, ◌-◌, ◌<◌, ◌≤◌, Bool, true, false, ◌&&◌, List, length, get_or, refl, ap, sym, ◌∙◌, subst, arith, Option, Some, None}
-use Rattle.std.proofs.lemmas.Bool.{lt-ltb, le-ltb, eq-eqb, ne_eqb}
+use Rattle.std.proofs.Common.{◌≡◌, ◌≢◌, ℕ, zero, suc, ◌+◌, ◌-◌, ◌<◌, ◌≤◌, Bool, true, false, ◌&&◌, inl, inr, List, length, get_or, refl, ap, sym, ◌∙◌, subst, arith, Option, Some, None}
+use Rattle.std.proofs.lemmas.Bool.{lt-ltb, le-ltb, eq-eqb, ne_eqb, cases_Bool, cases_lt, cases_eq, and_parts}
 use Rattle.bit_words.specs.Bits.{rank}
 use Rattle.bit_words.specs.Digits.{digits}
 use Rattle.bit_words.proofs.Ranks.{rank_more_yes, rank-le-rank}
 use Rattle.id_names.specs.Inverse.{walk, back_from, number_at}
+
+not_some : (k : ℕ) → None ≡ Some k → ⊥
+not_some k e = cc
 
 -- a mark has one of the pointers
 pub mark_within : (marks : List Bool) (x : ℕ) → x < length marks → get_or marks x false ≡ true → rank true marks x < rank true marks (length marks)
@@ -48,6 +51,29 @@ module _ (places : List ℕ) (marks : List Bool) (back : List ℕ) (j : ℕ) whe
   unfolding walk
   walk_ends zero x may e = refl
   walk_ends (suc tests) x may e = absurd (omega arith)
+
+  -- more tests come to the same number
+  pub walk_longer : (tests more x : ℕ) (may : Bool) (number : ℕ) → tests ≤ more → walk places marks back j tests may x ≡ Some number → walk places marks back j more may x ≡ Some number
+  walk_longer zero more x may number l e = absurd (not_some number (sym (walk_ends 0 x may refl) ∙ e))
+  walk_longer (suc tests) more x may number l e =
+      let t : suc tests - 1 ≡ tests = omega arith in
+      elim (cases_lt x (length places)) [
+        | inl within ↦ elim (cases_eq (get_or places x 0) j) [
+          | inl is ↦ walk_here more x may (omega arith) within is ∙ sym (walk_here (suc tests) x may (omega arith) within is) ∙ e
+          | inr ne ↦ elim (cases_Bool (may && get_or marks x false)) [
+            | inl jumps ↦
+                let both = and_parts may (get_or marks x false) jumps in
+                let before = subst (λ b. walk places marks back j (suc tests) b x ≡ Some number) both.0 e in
+                let rest = sym (ap (λ n. walk places marks back j n false (back_from marks back x)) t) ∙ sym (walk_jumps (suc tests) x (omega arith) within ne both.1) ∙ before in
+                subst (λ b. walk places marks back j more b x ≡ Some number) (sym both.0)
+                (walk_jumps more x (omega arith) within ne both.1 ∙ walk_longer tests (more - 1) (back_from marks back x) false number (omega arith) rest)
+            | inr follows ↦
+                let rest = sym (ap (λ n. walk places marks back j n may (get_or places x 0)) t) ∙ sym (walk_follows (suc tests) x may (omega arith) within ne follows) ∙ e in
+                walk_follows more x may (omega arith) within ne follows ∙ walk_longer tests (more - 1) (get_or places x 0) may number (omega arith) rest
+          ]
+        ]
+        | inr past ↦ absurd (not_some number (sym (walk_past (suc tests) x may past) ∙ e))
+      ]
 
   -- what is left of a walk of `tests` tests after i of them, one test later
   pub left_jumped : (tests i x to : ℕ) (may later : Bool) (end : Option ℕ) → i < tests → walk places marks back j (tests - i) may x ≡ end → x < length places → get_or places x 0 ≢ j → may ≡ true → get_or marks x false ≡ true → later ≡ false → to ≡ back_from marks back x → walk places marks back j (tests - (i + 1)) later to ≡ end

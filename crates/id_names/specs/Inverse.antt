@@ -3,7 +3,7 @@ use Rattle.std.specs.Prelude.{ℕ, zero, suc, ◌+◌, ◌==◌, Bool, true, fal
 use Rattle.bit_words.specs.Bits.{rank}
 use Rattle.bit_words.specs.Digits.{digits}
 
--- how far marks stand from one another in a cycle, among c numbers
+-- how far marks may stand from one another in a cycle, among c numbers
 abbrev pub stride : ℕ → ℕ
 stride c = digits (c + 2)
 

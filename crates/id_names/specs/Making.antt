@@ -1,5 +1,5 @@
 -- The parts that are made of ids, each as a list.
-use Rattle.std.specs.Prelude.{ℕ, ◌%◌, ◌/◌, ◌^◌, ◌≡◌, ◌==◌, Bool, true, false, nat_lt, List, [], ◌∷◌, ◌++◌, map, length, count_by, find, flat_map, replicate, unwrap_or, max}
+use Rattle.std.specs.Prelude.{ℕ, min, ◌%◌, ◌/◌, ◌^◌, ◌≡◌, ◌==◌, Bool, true, false, nat_lt, List, [], ◌∷◌, ◌++◌, map, length, count_by, find, flat_map, replicate, unwrap_or, max}
 use Rattle.std.specs.List.{range_with_len}
 use Rattle.bit_words.specs.Bits.{fields_in}
 use Rattle.bit_words.specs.Digits.{digits}
@@ -37,6 +37,11 @@ high_bits low ids = flat_map (bucket low ids) (range_with_len 0 (2 ^ digits (len
 abbrev pub place_width : ℕ → ℕ
 place_width c = max 1 (digits c)
 
+-- How far marks stand from one another in what is made of c ids: as far as walks may go, but 4 members at most, so that
+-- a walk makes 5 tests at most.
+abbrev pub spacing : ℕ → ℕ
+spacing c = min 4 (stride c)
+
 -- the parts that are made of these ids
 abbrev pub made : ℕ → List ℕ → RisingNames
 made low ids = record {
@@ -44,8 +49,8 @@ made low ids = record {
   lows = low_parts low ids;
   low = low;
   places = places_of ids;
-  marks = marked (places_of ids) (stride (length ids));
-  back = back_pointers (places_of ids) (stride (length ids));
+  marks = marked (places_of ids) (spacing (length ids));
+  back = back_pointers (places_of ids) (spacing (length ids));
 }
 
 -- these words hold these numbers by so many bits each, and no other bit is 1

@@ -1,11 +1,11 @@
 //! Laws of the parts that are made, each the contract of a function that does nothing.
 
-ghost use Rattle.std.specs.Prelude.{ℕ, ◌≡◌, ◌<◌, ◌≤◌, ◌+◌, ◌^◌, List, [], ◌∷◌, length, slice_index, true, false, Some, None};
+ghost use Rattle.std.specs.Prelude.{ℕ, ◌≡◌, ◌<◌, ◌≤◌, ◌+◌, ◌^◌, List, [], ◌∷◌, length, map, slice_index, true, false, Some, None};
 ghost use Rattle.bit_words.specs.Bits.{rank};
 ghost use Rattle.bit_words.specs.Digits.{digits};
 ghost use Rattle.id_names.specs.Cycles.{IsPlacePermutation, marks_of, marked, back_pointers};
-ghost use Rattle.id_names.specs.Inverse.{stride, number_at};
-ghost use Rattle.id_names.specs.Making.{made, places_of, rising, high_bits};
+ghost use Rattle.id_names.specs.Inverse.{number_at};
+ghost use Rattle.id_names.specs.Making.{made, spacing, places_of, rising, high_bits};
 
 /// The parts have the sizes that names ask for: `HasSizes` of what holds them.
 pub fn sizes_of_made()
@@ -22,7 +22,7 @@ pub fn sizes_of_made()
 /// In a permutation whose long cycles are marked, the walk from the place of each number comes to it.
 pub fn walks_in_cycles()
     ensures { (places : List ℕ) → IsPlacePermutation places → (k : ℕ) → k < length places
-        → number_at places (marked places (stride (length places))) (back_pointers places (stride (length places)))
+        → number_at places (marked places (spacing (length places))) (back_pointers places (spacing (length places)))
         (slice_index places k) ≡ Some k }
 {}
 
@@ -31,6 +31,7 @@ pub fn made_by_hand()
     ensures places { places_of (2 ∷ 1 ∷ 3 ∷ []) ≡ 1 ∷ 0 ∷ 2 ∷ [] }
     ensures rising { rising (2 ∷ 1 ∷ 3 ∷ []) ≡ 1 ∷ 2 ∷ 3 ∷ [] }
     ensures high { high_bits 1 (5 ∷ 2 ∷ 3 ∷ []) ≡ false ∷ true ∷ true ∷ false ∷ true ∷ false ∷ false ∷ [] }
+    ensures spacing { map spacing (1 ∷ 4 ∷ 6 ∷ 100 ∷ []) ≡ 2 ∷ 3 ∷ 4 ∷ 4 ∷ [] }
     ensures marks { marks_of (1 ∷ 2 ∷ 3 ∷ 4 ∷ 0 ∷ []) 2 ≡ Some 4 ∷ None ∷ Some 0 ∷ None ∷ Some 2 ∷ [] }
     ensures short { marks_of (1 ∷ 0 ∷ 3 ∷ 2 ∷ []) 2 ≡ None ∷ None ∷ None ∷ None ∷ [] }
     ensures back { back_pointers (1 ∷ 2 ∷ 3 ∷ 4 ∷ 0 ∷ []) 2 ≡ 4 ∷ 0 ∷ 2 ∷ [] }

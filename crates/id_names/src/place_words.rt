@@ -4,8 +4,7 @@ ghost use Rattle.std.specs.Prelude.{◌≡◌, ◌≤◌, map, filter_map, lengt
 ghost use Rattle.bit_words.specs.Bits.{HoldsBits};
 ghost use Rattle.rank_select.specs.Counts.{counts_of};
 ghost use Rattle.id_names.specs.Cycles.{AreInverse, IsPlacePermutation, marked, back_pointers};
-ghost use Rattle.id_names.specs.Inverse.{stride};
-ghost use Rattle.id_names.specs.Making.{place_width, HoldsFields};
+ghost use Rattle.id_names.specs.Making.{place_width, spacing, HoldsFields};
 
 use crate::cycles::cycle_marks;
 use crate::inverse::binary_digits;
@@ -22,6 +21,14 @@ pub(crate) struct PlaceWords {
     pub(crate) mark_counts: Vec<u64>,
     pub(crate) back: Vec<u64>,
     pub(crate) marked: u32,
+}
+
+/// How far marks stand from one another: the nearer, the fewer tests a walk makes, and the more pointers there are.
+fn spacing(count: usize) -> u32
+    requires { count ≤ 16777216 }
+    ensures { result ≡ spacing count }
+{
+    binary_digits(count + 2).min(4)
 }
 
 /// Which of these are pointers.
@@ -58,16 +65,16 @@ pub(crate) fn place_words(
     ensures places { IfOk result (λ words. HoldsFields words.places.items
         (place_width (length places.now)) places.now) }
     ensures marks { IfOk result (λ words. HoldsBits words.marks.items
-        (marked places.now (stride (length places.now)))) }
+        (marked places.now (spacing (length places.now)))) }
     ensures mark_counts { IfOk result (λ words. HoldsFields words.mark_counts.items 32
-        (counts_of (marked places.now (stride (length places.now))))) }
+        (counts_of (marked places.now (spacing (length places.now))))) }
     ensures back { IfOk result (λ words. HoldsFields words.back.items (place_width (length places.now))
-        (back_pointers places.now (stride (length places.now)))) }
+        (back_pointers places.now (spacing (length places.now)))) }
     ensures marked { IfOk result (λ words. words.marked ≡ length (back_pointers places.now
-        (stride (length places.now)))) }
+        (spacing (length places.now)))) }
 {
     let width = binary_digits(places.len()).max(1);
-    let stride = binary_digits(places.len() + 2);
+    let stride = spacing(places.len());
     let Ok(pointers) = cycle_marks(alloc, places, numbers, stride) else {
         return Err(Memory);
     };

@@ -60,6 +60,19 @@ fn four_names_are_made_in_one_cycle(rt: HostRuntime) -> Result<(), Fail> {
 }
 
 #[test]
+fn fourteen_names_are_made_in_one_cycle(rt: HostRuntime) -> Result<(), Fail> {
+    let words = make(
+        rt.alloc(),
+        &[2, 3, 4, 5, 6, 7, 8, 9, 10, 11, 12, 13, 14, 1],
+        14,
+    )?;
+    assert_eq!(rt; words.marks.as_slice(), [4369].as_slice());
+    assert_eq!(rt; words.back.as_slice(), [33804].as_slice());
+    assert_eq!(rt; words.marked, 4);
+    Ok(())
+}
+
+#[test]
 fn the_greatest_id_and_no_names_are_made(rt: HostRuntime) -> Result<(), Fail> {
     let one = make(rt.alloc(), &[2147483647], 30)?;
     assert_eq!(rt; one.high.as_slice(), [2].as_slice());
@@ -149,8 +162,8 @@ fn large_names_go_both_ways(rt: HostRuntime) -> Result<(), Fail> {
     let alloc = rt.alloc();
     assert!(rt; cycles_go_both_ways(alloc, 1, 100000)?, "one cycle");
     assert!(rt;
-        cycles_go_both_ways(alloc, 1000, 10)?,
-        "cycles shorter than the stride"
+        cycles_go_both_ways(alloc, 3000, 3)?,
+        "cycles too short for marks"
     );
     assert!(rt; cycles_go_both_ways(alloc, 10000, 1)?, "each at its place");
     Ok(())

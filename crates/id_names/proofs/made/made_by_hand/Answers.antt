@@ -18,6 +18,10 @@ pub returns-clause-high : goal.returns-clause-high
 unfolding high_bits digits
 returns-clause-high c = refl
 
+pub returns-clause-spacing : goal.returns-clause-spacing
+unfolding digits
+returns-clause-spacing c = refl
+
 pub returns-clause-marks : goal.returns-clause-marks
 unfolding tabulate mark_of mark_at walks.until_return
 returns-clause-marks c = refl

@@ -2,8 +2,7 @@ use Rattle.std.proofs.Common.{◌≡◌, ℕ, List, length, ap, sym, subst, ◌�
 use Rattle.bit_words.specs.Bits.{HoldsBits}
 use Rattle.rank_select.specs.Counts.{counts_of}
 use Rattle.id_names.specs.Cycles.{AreInverse, IsPlacePermutation, marked, back_pointers}
-use Rattle.id_names.specs.Inverse.{stride}
-use Rattle.id_names.specs.Making.{HoldsFields, place_width, places_of}
+use Rattle.id_names.specs.Making.{spacing, HoldsFields, place_width, places_of}
 use Rattle.id_names.specs.Numbered.{entry_numbers}
 use Rattle.id_names.proofs.MakingLaws.{ids_back, no_fault}
 use Rattle.id_names.proofs.SortedIds.{are_rising, are_places, are_inverse, length-places_of}
@@ -39,25 +38,25 @@ returns-clause-places c =
 pub returns-clause-marks : goal.returns-clause-marks
 returns-clause-marks c =
     let r = are_rising c.args.ids.now c.in-Ok.entries.items c.requires.names.distinct c.in-Ok.ensures in
-    moved c.args.ids.now c.deref-4.result.now (λ xs n. HoldsBits c.in_ok-inverse.inverse.marks.items (marked xs (stride n)))
+    moved c.args.ids.now c.deref-4.result.now (λ xs n. HoldsBits c.in_ok-inverse.inverse.marks.items (marked xs (spacing n)))
     (c.deref-4.ensures.value ∙ c.in-Ok-places_by_number.ensures) (length-places_of c.args.ids.now c.in-Ok.entries.items r) c.in_ok-inverse.ensures.marks
 
 pub returns-clause-mark_counts : goal.returns-clause-mark_counts
 returns-clause-mark_counts c =
     let r = are_rising c.args.ids.now c.in-Ok.entries.items c.requires.names.distinct c.in-Ok.ensures in
-    moved c.args.ids.now c.deref-4.result.now (λ xs n. HoldsFields c.in_ok-inverse.inverse.mark_counts.items 32 (counts_of (marked xs (stride n))))
+    moved c.args.ids.now c.deref-4.result.now (λ xs n. HoldsFields c.in_ok-inverse.inverse.mark_counts.items 32 (counts_of (marked xs (spacing n))))
     (c.deref-4.ensures.value ∙ c.in-Ok-places_by_number.ensures) (length-places_of c.args.ids.now c.in-Ok.entries.items r) c.in_ok-inverse.ensures.mark_counts
 
 pub returns-clause-back : goal.returns-clause-back
 returns-clause-back c =
     let r = are_rising c.args.ids.now c.in-Ok.entries.items c.requires.names.distinct c.in-Ok.ensures in
-    moved c.args.ids.now c.deref-4.result.now (λ xs n. HoldsFields c.in_ok-inverse.inverse.back.items (place_width n) (back_pointers xs (stride n)))
+    moved c.args.ids.now c.deref-4.result.now (λ xs n. HoldsFields c.in_ok-inverse.inverse.back.items (place_width n) (back_pointers xs (spacing n)))
     (c.deref-4.ensures.value ∙ c.in-Ok-places_by_number.ensures) (length-places_of c.args.ids.now c.in-Ok.entries.items r) c.in_ok-inverse.ensures.back
 
 pub returns-clause-marked : goal.returns-clause-marked
 returns-clause-marked c =
     let r = are_rising c.args.ids.now c.in-Ok.entries.items c.requires.names.distinct c.in-Ok.ensures in
-    moved c.args.ids.now c.deref-4.result.now (λ xs n. c.in_ok-inverse.inverse.marked ≡ length (back_pointers xs (stride n)))
+    moved c.args.ids.now c.deref-4.result.now (λ xs n. c.in_ok-inverse.inverse.marked ≡ length (back_pointers xs (spacing n)))
     (c.deref-4.ensures.value ∙ c.in-Ok-places_by_number.ensures) (length-places_of c.args.ids.now c.in-Ok.entries.items r) c.in_ok-inverse.ensures.marked
 
 pub returns-clause-ids : goal.returns-clause-ids
