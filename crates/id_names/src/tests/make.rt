@@ -6,9 +6,9 @@ ghost use Rattle.bit_words.specs.Digits.{digits};
 ghost use Rattle.id_names.specs.Names.{AreDistinctIds};
 ghost use Rattle.id_names.specs.RisingNames.{bound_of};
 
-use crate::make;
 use crate::tests::image::image_made;
 use crate::tests::{has_ids, open};
+use crate::{NameWords, make};
 use std::alloc::{AllocError, Global};
 use std::marker::Brand;
 use std::sync::ledger::Blank;
@@ -56,19 +56,6 @@ fn four_names_are_made_in_one_cycle(rt: HostRuntime) -> Result<(), Fail> {
     assert_eq!(rt; words.marks.as_slice(), [9].as_slice());
     assert_eq!(rt; words.back.as_slice(), [3].as_slice());
     assert_eq!(rt; words.marked, 2);
-    Ok(())
-}
-
-#[test]
-fn fourteen_names_are_made_in_one_cycle(rt: HostRuntime) -> Result<(), Fail> {
-    let words = make(
-        rt.alloc(),
-        &[2, 3, 4, 5, 6, 7, 8, 9, 10, 11, 12, 13, 14, 1],
-        14,
-    )?;
-    assert_eq!(rt; words.marks.as_slice(), [4369].as_slice());
-    assert_eq!(rt; words.back.as_slice(), [33804].as_slice());
-    assert_eq!(rt; words.marked, 4);
     Ok(())
 }
 
@@ -146,6 +133,25 @@ fn goes_both_ways(
         Some(Ok(names)) => Ok(has_ids::<Brand>(alloc, names, ids, others, Blank::new(1))),
         _ => Ok(false),
     }
+}
+
+/// What is made of ids in so many cycles of this length.
+fn words_of_cycles(alloc: Global, cycles: IdNumber, len: IdNumber) -> Result<NameWords, Fail>
+    requires some { 1 ≤ len }
+    requires few { cycles * len ≤ 100000 }
+{
+    let ids = ids_in_cycles(alloc, cycles, len)?;
+    let words = make(alloc, &ids, 14)?;
+    Ok(words)
+}
+
+#[test]
+fn fourteen_names_are_made_in_one_cycle(rt: HostRuntime) -> Result<(), Fail> {
+    let words = words_of_cycles(rt.alloc(), 1, 14)?;
+    assert_eq!(rt; words.marks.as_slice(), [4369].as_slice());
+    assert_eq!(rt; words.back.as_slice(), [33804].as_slice());
+    assert_eq!(rt; words.marked, 4);
+    Ok(())
 }
 
 /// Whether ids in so many cycles of this length go both ways.
