@@ -984,8 +984,18 @@ const UPGRADE: [&str; 3] = ["upgrade", "old.pemb", "map.pemb"];
 
 const UPGRADE_IN_PLACE: [&str; 3] = ["upgrade", "old.pemb", "old.pemb"];
 
-/// The calls that fail while the triangle's file is written, and how that has to end: `held` is how many bytes of the
-/// image stand in the file, which may be missing, or of the file in form 1 where that was not replaced.
+/// What a file holds of the triangle's.
+#[derive(Clone, Copy)]
+enum Held {
+    /// It is missing.
+    Nothing,
+    /// So many bytes of the file of form 1, which is built.
+    FormOne(usize),
+    /// So many bytes of the file of form 2.
+    FormTwo(usize),
+}
+
+/// The calls that fail while the triangle's file is written, and how that has to end.
 #[derive(Clone, Copy)]
 struct BuildCase {
     shows: &'static str,
@@ -994,7 +1004,7 @@ struct BuildCase {
     sink: &'static [u64],
     status: Status,
     out: &'static str,
-    held: Option<usize>,
+    held: Held,
 }
 
 const BUILDS: [BuildCase; 20] = [
@@ -1005,7 +1015,7 @@ const BUILDS: [BuildCase; 20] = [
         sink: &[],
         status: Status::Done,
         out: "built 3 3 1 1 0\n",
-        held: Some(432),
+        held: Held::FormOne(416),
     },
     BuildCase {
         shows: "a build whose line is written in part",
@@ -1014,7 +1024,7 @@ const BUILDS: [BuildCase; 20] = [
         sink: &[1],
         status: Status::WriteFault,
         out: "built 3 ",
-        held: Some(432),
+        held: Held::FormOne(416),
     },
     BuildCase {
         shows: "a failing first read of the node table",
@@ -1023,7 +1033,7 @@ const BUILDS: [BuildCase; 20] = [
         sink: &[],
         status: Status::ReadFault,
         out: "",
-        held: None,
+        held: Held::Nothing,
     },
     BuildCase {
         shows: "a failing second read of the node table",
@@ -1032,7 +1042,7 @@ const BUILDS: [BuildCase; 20] = [
         sink: &[],
         status: Status::ReadFault,
         out: "",
-        held: None,
+        held: Held::Nothing,
     },
     BuildCase {
         shows: "a failing first read of the edge table",
@@ -1041,7 +1051,7 @@ const BUILDS: [BuildCase; 20] = [
         sink: &[],
         status: Status::ReadFault,
         out: "",
-        held: None,
+        held: Held::Nothing,
     },
     BuildCase {
         shows: "a failing second read of the edge table",
@@ -1050,7 +1060,7 @@ const BUILDS: [BuildCase; 20] = [
         sink: &[],
         status: Status::ReadFault,
         out: "",
-        held: None,
+        held: Held::Nothing,
     },
     BuildCase {
         shows: "a failing first read of the face table",
@@ -1059,7 +1069,7 @@ const BUILDS: [BuildCase; 20] = [
         sink: &[],
         status: Status::ReadFault,
         out: "",
-        held: None,
+        held: Held::Nothing,
     },
     BuildCase {
         shows: "a failing second read of the face table",
@@ -1068,7 +1078,7 @@ const BUILDS: [BuildCase; 20] = [
         sink: &[],
         status: Status::ReadFault,
         out: "",
-        held: None,
+        held: Held::Nothing,
     },
     BuildCase {
         shows: "a failing read of the region table",
@@ -1077,7 +1087,7 @@ const BUILDS: [BuildCase; 20] = [
         sink: &[],
         status: Status::ReadFault,
         out: "",
-        held: None,
+        held: Held::Nothing,
     },
     BuildCase {
         shows: "a failing read of the member table",
@@ -1086,7 +1096,7 @@ const BUILDS: [BuildCase; 20] = [
         sink: &[],
         status: Status::ReadFault,
         out: "",
-        held: None,
+        held: Held::Nothing,
     },
     BuildCase {
         shows: "a failing start of the file",
@@ -1095,7 +1105,7 @@ const BUILDS: [BuildCase; 20] = [
         sink: &[],
         status: Status::WriteFault,
         out: "",
-        held: None,
+        held: Held::Nothing,
     },
     BuildCase {
         shows: "an image that is written in part",
@@ -1104,7 +1114,7 @@ const BUILDS: [BuildCase; 20] = [
         sink: &[],
         status: Status::WriteFault,
         out: "",
-        held: Some(216),
+        held: Held::FormOne(208),
     },
     BuildCase {
         shows: "a call that is not made",
@@ -1113,7 +1123,7 @@ const BUILDS: [BuildCase; 20] = [
         sink: &[],
         status: Status::Done,
         out: "built 3 3 1 1 0\n",
-        held: Some(432),
+        held: Held::FormOne(416),
     },
     BuildCase {
         shows: "a failing second read of the old file",
@@ -1122,7 +1132,7 @@ const BUILDS: [BuildCase; 20] = [
         sink: &[],
         status: Status::ReadFault,
         out: "",
-        held: None,
+        held: Held::Nothing,
     },
     BuildCase {
         shows: "a failing start of the new file",
@@ -1131,7 +1141,7 @@ const BUILDS: [BuildCase; 20] = [
         sink: &[],
         status: Status::WriteFault,
         out: "",
-        held: None,
+        held: Held::Nothing,
     },
     BuildCase {
         shows: "an upgrade that is written in part",
@@ -1140,7 +1150,7 @@ const BUILDS: [BuildCase; 20] = [
         sink: &[],
         status: Status::WriteFault,
         out: "",
-        held: Some(216),
+        held: Held::FormTwo(216),
     },
     BuildCase {
         shows: "an upgrade",
@@ -1149,7 +1159,7 @@ const BUILDS: [BuildCase; 20] = [
         sink: &[],
         status: Status::Done,
         out: "upgraded 3 3 1 1 0\n",
-        held: Some(432),
+        held: Held::FormTwo(432),
     },
     BuildCase {
         shows: "a failing start of a file that is upgraded in place",
@@ -1158,7 +1168,7 @@ const BUILDS: [BuildCase; 20] = [
         sink: &[],
         status: Status::WriteFault,
         out: "",
-        held: Some(416),
+        held: Held::FormOne(416),
     },
     BuildCase {
         shows: "an upgrade in place that is written in part",
@@ -1167,7 +1177,7 @@ const BUILDS: [BuildCase; 20] = [
         sink: &[],
         status: Status::WriteFault,
         out: "",
-        held: Some(216),
+        held: Held::FormTwo(216),
     },
     BuildCase {
         shows: "an upgrade in place whose line is written in part",
@@ -1176,21 +1186,18 @@ const BUILDS: [BuildCase; 20] = [
         sink: &[1],
         status: Status::WriteFault,
         out: "upgraded ",
-        held: Some(432),
+        held: Held::FormTwo(432),
     },
 ];
 
-/// Whether a file is missing, or holds so many bytes of the triangle's image, or of its file in form 1 where these are
-/// all.
-fn holds_front(alloc: Global, file: Option<&[u8]>, count: Option<usize>) -> Result<bool, Fail> {
-    let image = bytes_of(alloc, &triangle())?;
-    let old = bytes_of(alloc, &old_triangle())?;
-    Ok(match (file, count) {
-        (None, None) => true,
-        (Some(bytes), Some(416)) => bytes == old.as_slice(),
-        (Some(bytes), Some(count)) => bytes.len() == count && image.starts_with(bytes),
-        _ => false,
-    })
+/// Whether a file holds this of the triangle's.
+fn holds(alloc: Global, file: Option<&[u8]>, held: Held) -> Result<bool, Fail> {
+    let (image, count) = match held {
+        Held::Nothing => return Ok(file.is_none()),
+        Held::FormOne(count) => (bytes_of(alloc, &old_triangle())?, count),
+        Held::FormTwo(count) => (bytes_of(alloc, &triangle())?, count),
+    };
+    Ok(file.is_some_and(|bytes| bytes.len() == count && image.starts_with(bytes)))
 }
 
 /// Whether a build or an upgrade of the triangle ends as it has to.
@@ -1203,7 +1210,7 @@ fn builds_well<L: Ledger>(
     shelf.add("old.pemb", &bytes_of(alloc, &old_triangle())?)?;
     let mut out = MemorySink::new(alloc, case.sink);
     let status = run_unasked(alloc, &case.words, &mut shelf, &mut out, steps)?;
-    let held = holds_front(alloc, shelf.file(case.words[2]), case.held)?;
+    let held = holds(alloc, shelf.file(case.words[2]), case.held)?;
     Ok(held && status == case.status && out.bytes() == case.out.as_bytes())
 }
 
@@ -1264,7 +1271,7 @@ fn dumps_well<L: Ledger>(alloc: Global, steps: &mut Steps<L>) -> Result<bool, Fa
     Ok(
         all_told_well(alloc, &DUMPED_AND_BUILT, &mut shelf, steps)?
             && holds_files(&shelf, &DUMPED)
-            && holds_front(alloc, shelf.file("map.pemb"), Some(432))?,
+            && holds(alloc, shelf.file("map.pemb"), Held::FormOne(416))?,
     )
 }
 
@@ -1904,10 +1911,10 @@ fn shelf_of_files(alloc: Global) -> Result<Option<MemoryShelf<'static>>, Fail> {
     Ok(Some(shelf))
 }
 
-/// Whether the file of the tables that were dumped is that of which they were dumped.
+/// Whether the file of the tables that were dumped is the one that was upgraded before.
 fn is_built_again(shelf: &MemoryShelf<'_>) -> bool {
-    match (shelf.file("again.pemb"), shelf.file("new.pemb")) {
-        (Some(again), Some(new)) => again == new,
+    match (shelf.file("again.pemb"), shelf.file("map.pemb")) {
+        (Some(again), Some(old)) => again == old,
         _ => false,
     }
 }
@@ -2001,7 +2008,7 @@ fn files_of_the_system_are_built_and_checked(rt: HostRuntime) -> Result<(), Fail
     assert!(rt; built_and_checked::<Brand>(&rt, Blank::new(1))?);
     let image = fs::read(&rt, BUILT_FILE)?;
     fs::remove_dir_all(&rt, BUILD_FOLDER)?;
-    assert!(rt; holds_front(rt.alloc(), Some(&image), Some(432))?);
+    assert!(rt; holds(rt.alloc(), Some(&image), Held::FormOne(416))?);
     Ok(())
 }
 
