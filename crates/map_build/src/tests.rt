@@ -4,7 +4,7 @@ ghost use Rattle.std.specs.Prelude.{◌≡◌, ◌<◌};
 
 use crate::{BuildFault, build};
 use bit_words::Steps;
-use image_words::{bytes_of, old_island, old_triangle};
+use image_words::{bytes_of, island, triangle};
 use map_maker::grid;
 use pemb_file::{Counts, Served, open};
 use plane_model::Tables;
@@ -102,7 +102,7 @@ fn counts(
 fn a_triangle_builds_its_words(rt: HostRuntime) -> Result<(), Fail> {
     let alloc = rt.alloc();
     let nodes = [(1, None), (2, None), (3, None)];
-    let want = bytes_of(alloc, &old_triangle())?;
+    let want = bytes_of(alloc, &triangle())?;
     let Ok(image) = built(alloc, &nodes, &TRIANGLE, &[1])? else {
         return Err(Fail::new("no image"));
     };
@@ -123,7 +123,7 @@ fn an_island_in_two_regions_builds_its_words(rt: HostRuntime) -> Result<(), Fail
     let Ok(image) = island_built(alloc, &regions, &[(1, 2), (2, 1)])? else {
         return Err(Fail::new("no image"));
     };
-    let want = bytes_of(alloc, &old_island())?;
+    let want = bytes_of(alloc, &island())?;
     assert!(rt; image.as_slice() == want.as_slice());
     let cycle = Refusal::RegionCycle { region: 1 };
     assert_eq!(rt;
@@ -139,22 +139,6 @@ fn an_island_in_two_regions_builds_its_words(rt: HostRuntime) -> Result<(), Fail
         island_built(alloc, &[], &[(1, 1)])?.err(),
         Some(BuildFault::Refused(missing))
     );
-    Ok(())
-}
-
-/// The form of the image of an island's map with a region of this id.
-fn form_with_region(alloc: Global, id: IdNumber) -> Result<Option<u8>, Fail> {
-    let Ok(image) = island_built(alloc, &[(id, None)], &[])? else {
-        return Ok(None);
-    };
-    Ok(image.get(8).copied())
-}
-
-#[test]
-fn the_form_goes_by_the_greatest_id(rt: HostRuntime) -> Result<(), Fail> {
-    let alloc = rt.alloc();
-    assert_eq!(rt; form_with_region(alloc, 2147483647)?, Some(1));
-    assert_eq!(rt; form_with_region(alloc, 2147483648)?, Some(2));
     Ok(())
 }
 

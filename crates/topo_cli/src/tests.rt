@@ -984,18 +984,8 @@ const UPGRADE: [&str; 3] = ["upgrade", "old.pemb", "map.pemb"];
 
 const UPGRADE_IN_PLACE: [&str; 3] = ["upgrade", "old.pemb", "old.pemb"];
 
-/// What a file holds of the triangle's.
-#[derive(Clone, Copy)]
-enum Held {
-    /// It is missing.
-    Nothing,
-    /// So many bytes of the file of form 1, which is built.
-    FormOne(usize),
-    /// So many bytes of the file of form 2.
-    FormTwo(usize),
-}
-
-/// The calls that fail while the triangle's file is written, and how that has to end.
+/// The calls that fail while the triangle's file is written, and how that has to end: `held` is how many bytes of the
+/// image stand in the file, which may be missing, or of the file in form 1 where that was not replaced.
 #[derive(Clone, Copy)]
 struct BuildCase {
     shows: &'static str,
@@ -1004,7 +994,7 @@ struct BuildCase {
     sink: &'static [u64],
     status: Status,
     out: &'static str,
-    held: Held,
+    held: Option<usize>,
 }
 
 const BUILDS: [BuildCase; 20] = [
@@ -1015,7 +1005,7 @@ const BUILDS: [BuildCase; 20] = [
         sink: &[],
         status: Status::Done,
         out: "built 3 3 1 1 0\n",
-        held: Held::FormOne(416),
+        held: Some(432),
     },
     BuildCase {
         shows: "a build whose line is written in part",
@@ -1024,7 +1014,7 @@ const BUILDS: [BuildCase; 20] = [
         sink: &[1],
         status: Status::WriteFault,
         out: "built 3 ",
-        held: Held::FormOne(416),
+        held: Some(432),
     },
     BuildCase {
         shows: "a failing first read of the node table",
@@ -1033,7 +1023,7 @@ const BUILDS: [BuildCase; 20] = [
         sink: &[],
         status: Status::ReadFault,
         out: "",
-        held: Held::Nothing,
+        held: None,
     },
     BuildCase {
         shows: "a failing second read of the node table",
@@ -1042,7 +1032,7 @@ const BUILDS: [BuildCase; 20] = [
         sink: &[],
         status: Status::ReadFault,
         out: "",
-        held: Held::Nothing,
+        held: None,
     },
     BuildCase {
         shows: "a failing first read of the edge table",
@@ -1051,7 +1041,7 @@ const BUILDS: [BuildCase; 20] = [
         sink: &[],
         status: Status::ReadFault,
         out: "",
-        held: Held::Nothing,
+        held: None,
     },
     BuildCase {
         shows: "a failing second read of the edge table",
@@ -1060,7 +1050,7 @@ const BUILDS: [BuildCase; 20] = [
         sink: &[],
         status: Status::ReadFault,
         out: "",
-        held: Held::Nothing,
+        held: None,
     },
     BuildCase {
         shows: "a failing first read of the face table",
@@ -1069,7 +1059,7 @@ const BUILDS: [BuildCase; 20] = [
         sink: &[],
         status: Status::ReadFault,
         out: "",
-        held: Held::Nothing,
+        held: None,
     },
     BuildCase {
         shows: "a failing second read of the face table",
@@ -1078,7 +1068,7 @@ const BUILDS: [BuildCase; 20] = [
         sink: &[],
         status: Status::ReadFault,
         out: "",
-        held: Held::Nothing,
+        held: None,
     },
     BuildCase {
         shows: "a failing read of the region table",
@@ -1087,7 +1077,7 @@ const BUILDS: [BuildCase; 20] = [
         sink: &[],
         status: Status::ReadFault,
         out: "",
-        held: Held::Nothing,
+        held: None,
     },
     BuildCase {
         shows: "a failing read of the member table",
@@ -1096,7 +1086,7 @@ const BUILDS: [BuildCase; 20] = [
         sink: &[],
         status: Status::ReadFault,
         out: "",
-        held: Held::Nothing,
+        held: None,
     },
     BuildCase {
         shows: "a failing start of the file",
@@ -1105,7 +1095,7 @@ const BUILDS: [BuildCase; 20] = [
         sink: &[],
         status: Status::WriteFault,
         out: "",
-        held: Held::Nothing,
+        held: None,
     },
     BuildCase {
         shows: "an image that is written in part",
@@ -1114,7 +1104,7 @@ const BUILDS: [BuildCase; 20] = [
         sink: &[],
         status: Status::WriteFault,
         out: "",
-        held: Held::FormOne(208),
+        held: Some(216),
     },
     BuildCase {
         shows: "a call that is not made",
@@ -1123,7 +1113,7 @@ const BUILDS: [BuildCase; 20] = [
         sink: &[],
         status: Status::Done,
         out: "built 3 3 1 1 0\n",
-        held: Held::FormOne(416),
+        held: Some(432),
     },
     BuildCase {
         shows: "a failing second read of the old file",
@@ -1132,7 +1122,7 @@ const BUILDS: [BuildCase; 20] = [
         sink: &[],
         status: Status::ReadFault,
         out: "",
-        held: Held::Nothing,
+        held: None,
     },
     BuildCase {
         shows: "a failing start of the new file",
@@ -1141,7 +1131,7 @@ const BUILDS: [BuildCase; 20] = [
         sink: &[],
         status: Status::WriteFault,
         out: "",
-        held: Held::Nothing,
+        held: None,
     },
     BuildCase {
         shows: "an upgrade that is written in part",
@@ -1150,7 +1140,7 @@ const BUILDS: [BuildCase; 20] = [
         sink: &[],
         status: Status::WriteFault,
         out: "",
-        held: Held::FormTwo(216),
+        held: Some(216),
     },
     BuildCase {
         shows: "an upgrade",
@@ -1159,7 +1149,7 @@ const BUILDS: [BuildCase; 20] = [
         sink: &[],
         status: Status::Done,
         out: "upgraded 3 3 1 1 0\n",
-        held: Held::FormTwo(432),
+        held: Some(432),
     },
     BuildCase {
         shows: "a failing start of a file that is upgraded in place",
@@ -1168,7 +1158,7 @@ const BUILDS: [BuildCase; 20] = [
         sink: &[],
         status: Status::WriteFault,
         out: "",
-        held: Held::FormOne(416),
+        held: Some(416),
     },
     BuildCase {
         shows: "an upgrade in place that is written in part",
@@ -1177,7 +1167,7 @@ const BUILDS: [BuildCase; 20] = [
         sink: &[],
         status: Status::WriteFault,
         out: "",
-        held: Held::FormTwo(216),
+        held: Some(216),
     },
     BuildCase {
         shows: "an upgrade in place whose line is written in part",
@@ -1186,18 +1176,21 @@ const BUILDS: [BuildCase; 20] = [
         sink: &[1],
         status: Status::WriteFault,
         out: "upgraded ",
-        held: Held::FormTwo(432),
+        held: Some(432),
     },
 ];
 
-/// Whether a file holds this of the triangle's.
-fn holds(alloc: Global, file: Option<&[u8]>, held: Held) -> Result<bool, Fail> {
-    let (image, count) = match held {
-        Held::Nothing => return Ok(file.is_none()),
-        Held::FormOne(count) => (bytes_of(alloc, &old_triangle())?, count),
-        Held::FormTwo(count) => (bytes_of(alloc, &triangle())?, count),
-    };
-    Ok(file.is_some_and(|bytes| bytes.len() == count && image.starts_with(bytes)))
+/// Whether a file is missing, or holds so many bytes of the triangle's image, or of its file in form 1 where these are
+/// all.
+fn holds_front(alloc: Global, file: Option<&[u8]>, count: Option<usize>) -> Result<bool, Fail> {
+    let image = bytes_of(alloc, &triangle())?;
+    let old = bytes_of(alloc, &old_triangle())?;
+    Ok(match (file, count) {
+        (None, None) => true,
+        (Some(bytes), Some(416)) => bytes == old.as_slice(),
+        (Some(bytes), Some(count)) => bytes.len() == count && image.starts_with(bytes),
+        _ => false,
+    })
 }
 
 /// Whether a build or an upgrade of the triangle ends as it has to.
@@ -1210,7 +1203,7 @@ fn builds_well<L: Ledger>(
     shelf.add("old.pemb", &bytes_of(alloc, &old_triangle())?)?;
     let mut out = MemorySink::new(alloc, case.sink);
     let status = run_unasked(alloc, &case.words, &mut shelf, &mut out, steps)?;
-    let held = holds(alloc, shelf.file(case.words[2]), case.held)?;
+    let held = holds_front(alloc, shelf.file(case.words[2]), case.held)?;
     Ok(held && status == case.status && out.bytes() == case.out.as_bytes())
 }
 
@@ -1271,7 +1264,7 @@ fn dumps_well<L: Ledger>(alloc: Global, steps: &mut Steps<L>) -> Result<bool, Fa
     Ok(
         all_told_well(alloc, &DUMPED_AND_BUILT, &mut shelf, steps)?
             && holds_files(&shelf, &DUMPED)
-            && holds(alloc, shelf.file("map.pemb"), Held::FormOne(416))?,
+            && holds_front(alloc, shelf.file("map.pemb"), Some(432))?,
     )
 }
 
@@ -1911,10 +1904,10 @@ fn shelf_of_files(alloc: Global) -> Result<Option<MemoryShelf<'static>>, Fail> {
     Ok(Some(shelf))
 }
 
-/// Whether the file of the tables that were dumped is the one that was upgraded before.
+/// Whether the file of the tables that were dumped is that of which they were dumped.
 fn is_built_again(shelf: &MemoryShelf<'_>) -> bool {
-    match (shelf.file("again.pemb"), shelf.file("map.pemb")) {
-        (Some(again), Some(old)) => again == old,
+    match (shelf.file("again.pemb"), shelf.file("new.pemb")) {
+        (Some(again), Some(new)) => again == new,
         _ => false,
     }
 }
@@ -2008,7 +2001,7 @@ fn files_of_the_system_are_built_and_checked(rt: HostRuntime) -> Result<(), Fail
     assert!(rt; built_and_checked::<Brand>(&rt, Blank::new(1))?);
     let image = fs::read(&rt, BUILT_FILE)?;
     fs::remove_dir_all(&rt, BUILD_FOLDER)?;
-    assert!(rt; holds(rt.alloc(), Some(&image), Held::FormOne(416))?);
+    assert!(rt; holds_front(rt.alloc(), Some(&image), Some(432))?);
     Ok(())
 }
 
