@@ -8,8 +8,8 @@ ghost use Rattle.plane_model.specs.Consistent.{is_consistent};
 ghost use Rattle.plane_model.specs.Faults.{first_fault};
 ghost use Rattle.region_tree.specs.Parts.{member_places};
 ghost use Rattle.pemb_file.specs.Draft.{file_of_draft};
-ghost use Rattle.pemb_file.specs.Form.{least_image};
 ghost use Rattle.pemb_file.specs.Parts.{contents_of_parts};
+ghost use Rattle.file_laws.specs.Image.{image_of};
 ghost use Rattle.file_laws.specs.Lawful.{is_lawful, StandsFor};
 ghost use Rattle.map_build.specs.BuildFaults.{Names as NamesFault};
 ghost use Rattle.map_build.specs.Made.{contents_of_map};
@@ -138,7 +138,7 @@ pub fn draft(alloc: Global, tables: Tables) -> Result<Draft, BuildFault>
     ensures consistent { OnOk result (IsTrue (is_consistent (rows_of tables))) }
     ensures lawful { IfOk result (λ draft. IsTrue (is_lawful (file_of_draft draft))) }
     ensures stands { IfOk result (λ draft. StandsFor (file_of_draft draft) (rows_of tables)) }
-    ensures image { IfOk result (λ draft. file_of_draft draft ≡ least_image (contents_of_map (map_of (rows_of tables)))) }
+    ensures image { IfOk result (λ draft. file_of_draft draft ≡ image_of 2 (contents_of_map (map_of (rows_of tables)))) }
     ensures refused { IfErr result (λ e. NamesFault e (first_fault (rows_of tables))) }
     ensures exactly { is_none (first_fault (rows_of tables)) ≡ is_consistent (rows_of tables) }
 {
@@ -164,7 +164,7 @@ pub fn build(alloc: Global, tables: Tables) -> Result<Vec<u8>, BuildFault>
     ensures consistent { OnOk result (IsTrue (is_consistent (rows_of tables))) }
     ensures lawful { IfOk result (λ image. IsTrue (is_lawful image.items)) }
     ensures stands { IfOk result (λ image. StandsFor image.items (rows_of tables)) }
-    ensures image { IfOk result (λ image. image.items ≡ least_image (contents_of_map (map_of (rows_of tables)))) }
+    ensures image { IfOk result (λ image. image.items ≡ image_of 2 (contents_of_map (map_of (rows_of tables)))) }
     ensures refused { IfErr result (λ e. NamesFault e (first_fault (rows_of tables))) }
     ensures exactly { is_none (first_fault (rows_of tables)) ≡ is_consistent (rows_of tables) }
 {

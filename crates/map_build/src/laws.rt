@@ -18,7 +18,6 @@ ghost use Rattle.file_laws.specs.MapOfFile.{rows_of_contents, signed_at, node_at
 ghost use Rattle.file_laws.specs.Lawful.{is_whole, StandsFor};
 ghost use Rattle.map_build.specs.Made.{walked_at, contents_of_walk, contents_of_map};
 ghost use Rattle.file_laws.specs.Image.{image_of};
-ghost use Rattle.pemb_file.specs.Form.{least_image};
 ghost use Rattle.file_laws.specs.Layout.{words_of};
 ghost use Rattle.islands.specs.Darts.{AreDartsOf};
 ghost use Rattle.islands.specs.Placed.{map_with_faces};
@@ -133,10 +132,8 @@ pub fn built_contents()
         → contents_of (words_of bytes) ≡ contents_of_map (map_of t) → StandsFor bytes t }
 {}
 
-/// Tables of one map have one image in each form, and are built in one form, whatever the order of their rows.
+/// Tables of one map have one image in each form, whatever the order of their rows.
 pub fn one_image()
-    ensures images { (form : ℕ) (t u : Rows) → Same t u
+    ensures { (form : ℕ) (t u : Rows) → Same t u
         → image_of form (contents_of_map (map_of t)) ≡ image_of form (contents_of_map (map_of u)) }
-    ensures built { (t u : Rows) → Same t u
-        → least_image (contents_of_map (map_of t)) ≡ least_image (contents_of_map (map_of u)) }
 {}

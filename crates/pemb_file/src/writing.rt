@@ -5,10 +5,10 @@ ghost use Rattle.id_names.specs.Names.{AreDistinctIds};
 ghost use Rattle.code_laws.specs.Tour.{code_of};
 ghost use Rattle.file_laws.specs.Layout.{words_of, file_words, id_bits};
 ghost use Rattle.file_laws.specs.Held.{contents_of};
-ghost use Rattle.file_laws.specs.Lawful.{is_lawful, is_whole, has_room, has_room_for};
+ghost use Rattle.file_laws.specs.Lawful.{is_lawful, is_whole, has_room_for};
 ghost use Rattle.file_laws.specs.Image.{bytes_of, with_bits, with_fields, with_tree, with_names, code_sections, filled, counts_of_contents, image_of};
 ghost use Rattle.pemb_file.specs.Draft.{file_of_draft};
-ghost use Rattle.pemb_file.specs.Form.{number_of, least_form, least_image};
+ghost use Rattle.pemb_file.specs.Form.{number_of};
 ghost use Rattle.pemb_file.specs.Header.{counts_of_header};
 ghost use Rattle.pemb_file.specs.Parts.{contents_of_parts};
 ghost use Rattle.pemb_file.specs.Written.{Written, blank_header, HoldNames, HoldAllNames};
@@ -235,46 +235,15 @@ fn draft_of(alloc: Global, form: Form, parts: &ImageParts) -> Result<Draft, Memo
     Ok(Draft { bytes })
 }
 
-/// Whether form 1 has room for these ids.
-fn are_narrow(ids: &[IdNumber]) -> bool
-    ensures { result ≡ has_room 1 ids.now }
-{
-    ids.iter().all(|id| *id < 1 << 31)
-}
-
-/// Whether form 1 has room for all ids.
-fn has_narrow_ids(parts: &ImageParts) -> bool
-    ensures { result ≡ has_room_for 1 (contents_of_parts parts.now) }
-{
-    are_narrow(&parts.nodes)
-        & are_narrow(&parts.edges)
-        & are_narrow(&parts.faces)
-        & are_narrow(&parts.regions)
-}
-
-/// The first form that has room for all ids.
-fn least_form(parts: &ImageParts) -> Form
-    requires whole { IsTrue (is_whole (contents_of_parts parts.now)) }
-    ensures least { number_of result ≡ least_form (contents_of_parts parts.now) }
-    ensures room { IsTrue (has_room_for (number_of result) (contents_of_parts parts.now)) }
-{
-    if has_narrow_ids(parts) {
-        Form::One
-    } else {
-        Form::Two
-    }
-}
-
-/// A draft of the file that holds these parts, of the first form that has room for their ids. What it gives is a
-/// function of what the parts hold.
+/// A draft of the file of form 2 that holds these parts.
 pub fn write_draft(alloc: Global, parts: &ImageParts) -> Result<Draft, Memory>
     requires walk { length parts.now.tree.items ≡ length parts.now.first.items }
     requires whole { IsTrue (is_whole (contents_of_parts parts.now)) }
     ensures lawful { IfOk result (λ draft. IsTrue (is_lawful (file_of_draft draft))) }
     ensures contents { IfOk result (λ draft. contents_of (words_of (file_of_draft draft)) ≡ contents_of_parts parts.now) }
-    ensures file { IfOk result (λ draft. file_of_draft draft ≡ least_image (contents_of_parts parts.now)) }
+    ensures file { IfOk result (λ draft. file_of_draft draft ≡ image_of 2 (contents_of_parts parts.now)) }
 {
-    draft_of(alloc, least_form(parts), parts)
+    draft_of(alloc, Form::Two, parts)
 }
 
 /// The file of form 2 that holds these parts. Its bytes are a function of what the parts hold.

@@ -11,7 +11,7 @@ use Rattle.plane_model.specs.Consistent.{is_consistent, size}
 use Rattle.plane_model.specs.Answers.{answers}
 use Rattle.plane_model.specs.Texts.{table_text}
 use Rattle.topo_base.specs.declared.refusal.Table.TheVariants as table
-use Rattle.pemb_file.specs.Form.{least_image}
+use Rattle.file_laws.specs.Image.{image_of}
 use Rattle.file_laws.specs.Lawful.{StandsFor, is_lawful}
 use Rattle.map_build.specs.Made.{contents_of_map}
 use Rattle.map_totals.specs.Totals.{adjacent_total, face_total, most_total_words, node_total}
@@ -161,9 +161,9 @@ pub record IsScriptTaken (c : Call) (s : Status) : Type 0 where
   pub waits : IfSome c.form (ScriptWaits c)
   pub few : TookAtMost (most_taken s) c.script.left_before c.script.left_after
 
--- the one image of the map of tables: a lawful file that stands for them, of the first form that has room for the ids
+-- the one image of the map of tables: a lawful file of form 2 that stands for them
 pub record IsImageOf (t : Rows) (image : List ℕ) : Type 0 where
-  pub is : image ≡ least_image (contents_of_map (map_of t))
+  pub is : image ≡ image_of 2 (contents_of_map (map_of t))
   pub lawful : IsTrue (is_lawful image)
   pub stands : StandsFor image t
 
