@@ -14,7 +14,7 @@ pub use checking::check;
 pub use code_laws::{RingNumber, SeqFault};
 pub use making::{CodeWords, make};
 pub use numbering::{CodeNumbering, number};
-pub use view::{Stop, TuranParts, TuranView};
+pub use view::{RingStop, Stop, TuranParts, TuranView};
 
 #[cfg(test)]
 mod tests;

@@ -39,6 +39,19 @@ pub struct Stop {
     pub next: usize,
 }
 
+/// What stands at a position of a walk round a ring, what lies across its edge, and where the walk goes on.
+#[derive(Clone, Copy)]
+pub struct RingStop {
+    /// The number of the edge.
+    pub edge: u32,
+    /// Whether this is the edge's first position.
+    pub is_first: bool,
+    /// The ring across the edge.
+    pub across: RingNumber,
+    /// The next position.
+    pub next: usize,
+}
+
 /// A position, and its place among the parentheses of its kind.
 #[derive(Clone, Copy)]
 pub(crate) struct Mate {
@@ -716,6 +729,27 @@ impl<'a> TuranView<'a> {
         (seen.edge, seen.is_first)
     }
 
+    /// The mate of position `p`, of which this was seen, and its place among the parentheses of its kind.
+    fn mated_of_seen<C: Ledger>(&self, p: usize, seen: Seen, steps: &mut Steps<C>) -> Mate
+        requires within { p < length (code_of_view self.now).a }
+        requires seen { IsSeen (code_of_view self.now) p seen }
+        ensures mate { result.position ≡ mate (code_of_view self.now) p }
+        ensures within { result.position < length (code_of_view self.now).a }
+        ensures place { result.place ≡ place (code_of_view self.now) seen.tree result.position }
+        ensures some_steps { steps.old + 1 ≤ steps.new }
+        ensures cost { steps.new ≤ steps.old + 7 * digits (length (code_of_view self.now).a + 2) + 51 }
+    {
+        let place = if seen.is_first {
+            self.parens(seen.tree).mate(seen.place, steps)
+        } else {
+            seen.opening
+        };
+        match self.position_near(seen.tree, place, p, steps) {
+            Some(position) => Mate { position, place },
+            None => unreachable!(),
+        }
+    }
+
     /// The mate of position `p`, of which this was seen.
     fn mate_of_seen<C: Ledger>(&self, p: usize, seen: Seen, steps: &mut Steps<C>) -> usize
         requires within { p < length (code_of_view self.now).a }
@@ -725,15 +759,34 @@ impl<'a> TuranView<'a> {
         ensures some_steps { steps.old + 1 ≤ steps.new }
         ensures cost { steps.new ≤ steps.old + 7 * digits (length (code_of_view self.now).a + 2) + 51 }
     {
-        let mate = if seen.is_first {
-            self.parens(seen.tree).mate(seen.place, steps)
-        } else {
-            seen.opening
-        };
-        match self.position_near(seen.tree, mate, p, steps) {
-            Some(position) => position,
-            None => unreachable!(),
+        self.mated_of_seen(p, seen, steps).position
+    }
+
+    /// The innermost pair of the edges that are none of the trees round the gap before the mate of position `p`, of which
+    /// this was seen. Where the edge is such a one itself no mate is looked for.
+    #[inline(always)]
+    fn pair_across_seen<C: Ledger>(
+        &self,
+        p: usize,
+        seen: Seen,
+        steps: &mut Steps<C>,
+    ) -> Option<usize>
+        requires within { p < length (code_of_view self.now).a }
+        requires seen { IsSeen (code_of_view self.now) p seen }
+        ensures pair { result ≡ enclosing_pair (code_of_view self.now) false (mate (code_of_view self.now) p) }
+        ensures grows { steps.old ≤ steps.new }
+        ensures cost { steps.new ≤ steps.old + (if seen.tree then 9 * digits (length (code_of_view self.now).a + 2) + 86
+            else 2 * digits (length (code_of_view self.now).a + 2) + 35) }
+    {
+        if seen.tree {
+            let mate = self.mated_of_seen(p, seen, steps);
+            return self.pair_round(false, mate.position - mate.place, steps);
         }
+        if seen.is_first {
+            let parens = self.parens(false);
+            return Some(parens.opens_before(seen.place, steps));
+        }
+        self.pair_round(false, seen.place + 1, steps)
     }
 
     /// The edge at position `p`, and the next position of its orbit: round its node where `kind` is true, else round
@@ -769,6 +822,38 @@ impl<'a> TuranView<'a> {
             is_first: seen.is_first,
             over,
             next: self.after(over, near, steps),
+        }
+    }
+
+    /// The edge at position `p`, the ring across it, and the next position of its ring. Their component is looked for in
+    /// `near` before all, and stands there in the end.
+    #[inline(always)]
+    pub fn ring_stop<C: Ledger>(&self, p: usize, near: &mut usize, steps: &mut Steps<C>) -> RingStop
+        requires { p < length (code_of_view self.now).a }
+        ensures edge { result.edge ≡ edge_of (code_of_view self.now) p }
+        ensures edge_within { result.edge < edge_count (code_of_view self.now) }
+        ensures first { result.is_first ≡ is_first (code_of_view self.now) p }
+        ensures across { result.across ≡ ring_of (code_of_view self.now) (mate (code_of_view self.now) p) }
+        ensures across_within { IsTrue (has_ring (code_of_view self.now) result.across) }
+        ensures next { result.next ≡ next (code_of_view self.now) p }
+        ensures within { result.next < length (code_of_view self.now).a }
+        ensures component { near.new ≡ component_of (code_of_view self.now) p }
+        ensures some_steps { steps.old + 1 ≤ steps.new }
+        ensures cost { steps.new ≤ steps.old + 15 * digits (length (code_of_view self.now).a + 2) + 151 }
+    {
+        let seen = self.see(p, steps);
+        let over = if seen.tree {
+            p
+        } else {
+            self.mate_of_seen(p, seen, steps)
+        };
+        let next = self.after(over, near, steps);
+        let pair = self.pair_across_seen(p, seen, steps);
+        RingStop {
+            edge: seen.edge,
+            is_first: seen.is_first,
+            across: self.ring_of_pair(pair, p, *near, steps),
+            next,
         }
     }
 
