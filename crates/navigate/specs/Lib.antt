@@ -11,3 +11,4 @@ pub mod RegionWalk
 pub mod AdjacentWalk
 pub mod Standing
 pub mod Several
+pub mod FirstEdges

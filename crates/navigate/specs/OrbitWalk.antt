@@ -30,6 +30,10 @@ rest w = map (signed_at (contents_in w)) (positions_left w)
 abbrev pub rank_price : Contents → ℕ
 rank_price c = 12 * line_digits c + 118
 
+-- what finding that, the face across and going on cost at most
+abbrev pub across_price : Contents → ℕ
+across_price c = 15 * line_digits c + 155
+
 -- what reading a signed edge and going on cost at most
 abbrev pub price : Contents → ℕ
 price c = 15 * line_digits c + 136

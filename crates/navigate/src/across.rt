@@ -10,6 +10,7 @@ ghost use Rattle.navigate.specs.Standing.{IsStanding};
 ghost use Rattle.navigate.specs.declared.across.TheConstants.{KEPT};
 
 use crate::face_rings::FaceWalk;
+use crate::first_edges::FIRST;
 use crate::unseen::to_unseen;
 use bit_words::Steps;
 use scratch_region::Marks;
@@ -17,7 +18,7 @@ use std::sync::ledger::Ledger;
 use topo_base::FaceId;
 
 /// So many of the faces that it gives a walk keeps by their places.
-const KEPT: usize = 32;
+const KEPT: usize = FIRST;
 
 /// A walk to the other faces across the edges of a face, each where it comes first.
 #[derive(Drop)]
@@ -42,14 +43,14 @@ pub struct AdjacentWalk<'a> {
 }
 
 impl<'a> AdjacentWalk<'a> {
-    ghost use Rattle.std.specs.Prelude.{◌≡◌, ◌<◌, ◌≤◌, ◌+◌, ◌*◌, ◌∷◌, ◌++◌, [], map, length, option_map, option_to_list, IsSome, IsNone, MatchOption};
+    ghost use Rattle.std.specs.Prelude.{◌≡◌, ◌<◌, ◌≤◌, ◌+◌, ◌*◌, ◌∷◌, ◌++◌, [], map, take, drop, length, option_map, option_to_list, IsSome, IsNone, MatchOption};
     ghost use Rattle.scratch_region.specs.Marks.{room_of, IsEmpty};
     ghost use Rattle.file_laws.specs.MapOfFile.{face_at_place};
     ghost use Rattle.navigate.specs.Beside.{adjacent_places};
     ghost use Rattle.navigate.specs.FaceWalk as rings;
     ghost use Rattle.navigate.specs.FaceWalk.{pass_price};
     ghost use Rattle.navigate.specs.Standing.{IsStanding};
-    ghost use Rattle.navigate.specs.AdjacentWalk.{contents_in, given, given_places, rest, allowance, step_price, HoldsGiven};
+    ghost use Rattle.navigate.specs.AdjacentWalk.{contents_in, whole_places, given, given_places, rest, allowance, step_price, HoldsGiven};
 
     /// The walk that gives these faces from the first on, where `next` is across the first position that is left.
     pub(crate) fn standing(
@@ -76,6 +77,44 @@ impl<'a> AdjacentWalk<'a> {
             left,
             count: 0,
             given: [0; KEPT],
+            next,
+        }
+    }
+
+    /// The walk that gave the faces at these places, and gives the others, where `next` is across the first position that
+    /// is left.
+    pub(crate) fn begun(
+        place: usize,
+        whole: FaceWalk<'a>,
+        left: FaceWalk<'a>,
+        places: &[u32],
+        next: usize,
+    ) -> AdjacentWalk<'a>
+        requires same { rings.contents_in whole ≡ rings.contents_in left }
+        requires few { length places.now ≤ KEPT }
+        requires places { places.now ≡ take (length places.now)
+            (adjacent_places (rings.contents_in left) place (rings.face_positions whole)) }
+        requires standing { IsStanding (rings.contents_in left) place (rings.face_positions whole)
+            (rings.face_positions left) (length places.now) next }
+        ensures contents { contents_in result ≡ rings.contents_in left.entry }
+        ensures whole { whole_places result ≡ adjacent_places (rings.contents_in left.entry) place
+            (rings.face_positions whole.entry) }
+        ensures places { given_places result ≡ places.now }
+        ensures rest { rest result ≡ map (face_at_place (rings.contents_in left.entry)) (drop (length places.now)
+            (adjacent_places (rings.contents_in left.entry) place (rings.face_positions whole.entry))) }
+        ensures paid { allowance result ≡ step_price (rings.contents_in left.entry)
+            * length (rings.face_positions left.entry)
+            + pass_price (rings.contents_in left.entry) * length (rings.face_positions whole.entry) }
+    {
+        let mut given = [0; KEPT];
+        let count = places.len();
+        given[..count].copy_from_slice(places);
+        AdjacentWalk {
+            place,
+            whole,
+            left,
+            count,
+            given,
             next,
         }
     }

@@ -7,6 +7,7 @@ ghost use Rattle.navigate.specs.KeptStops.{AreKept};
 
 use crate::directed::with_direction;
 use crate::kept_stops::KeptStops;
+use crate::positions::place_of_ring;
 use crate::ranked::{RankedEdge, ranked_with};
 use crate::ranked_edges::{RankedEdges, edges_of};
 use crate::several::Several;
@@ -20,7 +21,17 @@ use topo_base::Signed;
 #[derive(Clone, Copy)]
 struct RankedStop {
     edge: RankedEdge,
+    /// The position itself, or its mate where the walk goes over its edge.
+    over: usize,
     next: usize,
+}
+
+/// What a walk round a ring finds at a position, and the place of the face across its edge.
+#[derive(Clone, Copy)]
+pub(crate) struct AcrossStop {
+    pub(crate) at: usize,
+    pub(crate) edge: RankedEdge,
+    pub(crate) across: usize,
 }
 
 /// A walk round a node or a ring: what is left of it, from a position on until it comes back to the first.
@@ -53,7 +64,7 @@ pub type NodeWalk<'a> = OrbitWalk<'a>;
 pub type RingWalk<'a> = OrbitWalk<'a>;
 
 impl<'a> OrbitWalk<'a> {
-    ghost use Rattle.std.specs.Prelude.{ℤ, List, ◌≡◌, ◌<◌, ◌≤◌, ◌+◌, ◌*◌, ◌++◌, ◌↔◌, [], ◌∷◌, drop, length, IsSome, IsNone, IsTrue, IfSome, MatchOption};
+    ghost use Rattle.std.specs.Prelude.{ℤ, List, false, ◌≡◌, ◌<◌, ◌≤◌, ◌+◌, ◌*◌, ◌++◌, ◌↔◌, [], ◌∷◌, drop, length, IsSome, IsNone, IsTrue, IfSome, MatchOption};
     ghost use Rattle.std.specs.Iterator.{YieldsFirst};
     ghost use Rattle.code_laws.specs.Code as codes;
     ghost use Rattle.code_laws.specs.Orbits.{orbit};
@@ -61,7 +72,9 @@ impl<'a> OrbitWalk<'a> {
     ghost use Rattle.pemb_file.specs.Served.{contents_of_view};
     ghost use Rattle.navigate.specs.Bound.{line_digits};
     ghost use Rattle.id_names.specs.Views.{names_in};
-    ghost use Rattle.navigate.specs.OrbitWalk.{contents_in, edge_names, positions_left, rest, price, rank_price, allowance};
+    ghost use Rattle.navigate.specs.OrbitWalk.{contents_in, edge_names, positions_left, rest, price, rank_price, across_price, allowance};
+    ghost use Rattle.navigate.specs.Beside.{place_across};
+    ghost use Rattle.navigate.specs.KeptStops.{IsSeen};
     ghost use Rattle.navigate.specs.Ranked.{IsRankOf, AreRanksOf};
     ghost use Rattle.navigate.specs.Several.{edges_in};
 
@@ -206,7 +219,40 @@ impl<'a> OrbitWalk<'a> {
         Some(p)
     }
 
-    /// The signed edge at the next position by its rank among the names of the edges, and the position after that one.
+    /// The signed edge at the next position by its rank among the names of the edges, and the position after that one, of
+    /// which nothing is kept.
+    #[inline(always)]
+    fn look_once<C: Ledger>(&mut self, steps: &mut Steps<C>) -> RankedStop
+        requires { 0 < self.old.left }
+        ensures same { (self.new.at ≡ self.old.at) × (self.new.left ≡ self.old.left) }
+        ensures positions { positions_left self.new ≡ positions_left self.old }
+        ensures contents { contents_in self.new ≡ contents_in self.old }
+        ensures names { edge_names self.new ≡ edge_names self.old }
+        ensures kind { self.new.kind ≡ self.old.kind }
+        ensures seen { IsSeen (edge_names self.old) (contents_in self.old) self.old.kind self.old.at result.over result.edge }
+        ensures next { result.next ≡ codes.step (contents_in self.old).code self.old.kind self.old.at }
+        ensures within { result.next < length (contents_in self.old).code.a }
+        ensures some_steps { steps.old + 1 ≤ steps.new }
+        ensures cost { steps.new ≤ steps.old + rank_price (contents_in self.old) }
+    {
+        let p = self.at;
+        let code = self.served.code();
+        let stop = code.stop(self.kind, p, &mut self.component, steps);
+        let edge = ranked_with(
+            self.served,
+            self.edges,
+            stop.edge as usize,
+            stop.is_first,
+            steps,
+        );
+        RankedStop {
+            edge,
+            over: stop.over,
+            next: stop.next,
+        }
+    }
+
+    /// The same, by what is kept of the next position, or by what is kept of it then.
     #[inline(always)]
     fn look<C: Ledger>(&mut self, steps: &mut Steps<C>) -> RankedStop
         requires { 0 < self.old.left }
@@ -222,27 +268,17 @@ impl<'a> OrbitWalk<'a> {
         ensures cost { steps.new ≤ steps.old + rank_price (contents_in self.old) }
     {
         let p = self.at;
-        let code = self.served.code();
         if let Some(kept) = self.kept.pass(p) {
-            let next = code.after(kept.over as usize, &mut self.component, steps);
+            let over = kept.over as usize;
             return RankedStop {
                 edge: kept.edge,
-                next,
+                over,
+                next: self.served.code().after(over, &mut self.component, steps),
             };
         }
-        let stop = code.stop(self.kind, p, &mut self.component, steps);
-        let edge = ranked_with(
-            self.served,
-            self.edges,
-            stop.edge as usize,
-            stop.is_first,
-            steps,
-        );
-        self.kept.keep(p, stop.over, edge);
-        RankedStop {
-            edge,
-            next: stop.next,
-        }
+        let stop = self.look_once(steps);
+        self.kept.keep(p, stop.over, stop.edge);
+        stop
     }
 
     /// The next position and its signed edge, or None at the end.
@@ -292,6 +328,69 @@ impl<'a> OrbitWalk<'a> {
         Some((p, stop.edge))
     }
 
+    /// The same, for a walk that doesn't come by again: nothing is kept.
+    #[inline(always)]
+    pub(crate) fn ranked_once<C: Ledger>(
+        &mut self,
+        steps: &mut Steps<C>,
+    ) -> Option<(usize, RankedEdge)>
+        ensures contents { contents_in self.new ≡ contents_in self.old }
+        ensures names { edge_names self.new ≡ edge_names self.old }
+        ensures kind { self.new.kind ≡ self.old.kind }
+        ensures next { MatchOption result (positions_left self.old ≡ [])
+            (λ found. positions_left self.old ≡ found.0 ∷ positions_left self.new) }
+        ensures edge { IfSome result (λ found. IsRankOf (edge_names self.old) found.1
+            (signed_at (contents_in self.old) found.0)) }
+        ensures within { MatchOption result (positions_left self.new ≡ [])
+            (λ found. found.0 < length (contents_in self.old).code.a) }
+        ensures cost { MatchOption result (steps.new ≡ steps.old) (λ _. (steps.old + 1 ≤ steps.new)
+            × (steps.new ≤ steps.old + rank_price (contents_in self.old))) }
+    {
+        if self.left == 0 {
+            return None;
+        }
+        let p = self.at;
+        let stop = self.look_once(steps);
+        self.go_on(stop.next);
+        Some((p, stop.edge))
+    }
+
+    /// The same of a walk round a ring, with the place of the face across the edge.
+    #[inline(always)]
+    pub(crate) fn across_once<C: Ledger>(&mut self, steps: &mut Steps<C>) -> Option<AcrossStop>
+        requires { self.old.kind ≡ false }
+        ensures contents { contents_in self.new ≡ contents_in self.old }
+        ensures names { edge_names self.new ≡ edge_names self.old }
+        ensures kind { self.new.kind ≡ false }
+        ensures next { MatchOption result (positions_left self.old ≡ [])
+            (λ found. positions_left self.old ≡ found.at ∷ positions_left self.new) }
+        ensures edge { IfSome result (λ found. IsRankOf (edge_names self.old) found.edge
+            (signed_at (contents_in self.old) found.at)) }
+        ensures across { IfSome result (λ found. found.across ≡ place_across (contents_in self.old) found.at) }
+        ensures low { IfSome result (λ found. found.across ≤ length (contents_in self.old).faces) }
+        ensures within { MatchOption result (positions_left self.new ≡ [])
+            (λ found. found.at < length (contents_in self.old).code.a) }
+        ensures cost { MatchOption result (steps.new ≡ steps.old) (λ _. (steps.old + 1 ≤ steps.new)
+            × (steps.new ≤ steps.old + across_price (contents_in self.old))) }
+    {
+        if self.left == 0 {
+            return None;
+        }
+        let at = self.at;
+        let code = self.served.code();
+        let stop = code.ring_stop(at, &mut self.component, steps);
+        let edge = ranked_with(
+            self.served,
+            self.edges,
+            stop.edge as usize,
+            stop.is_first,
+            steps,
+        );
+        let across = place_of_ring(self.served, stop.across, steps);
+        self.go_on(stop.next);
+        Some(AcrossStop { at, edge, across })
+    }
+
     /// The next signed edge, or None at the end.
     pub fn step<C: Ledger>(&mut self, steps: &mut Steps<C>) -> Option<Signed>
         ensures contents { contents_in self.new ≡ contents_in self.old }
@@ -320,7 +419,7 @@ impl<'a> OrbitWalk<'a> {
         ensures cost { steps.new ≤ steps.old + rank_price (contents_in self.old) * length ranks.new.items }
     {
         while !ranks.is_full() {
-            match self.ranked(steps) {
+            match self.ranked_once(steps) {
                 Some(found) => ranks.push(found.1),
                 None => return,
             }

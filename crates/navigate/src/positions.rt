@@ -123,7 +123,11 @@ pub fn position_of<C: Ledger>(
 }
 
 /// The place of a ring: 0 for one of face 0, and else 1 + the number of its face.
-fn place_of_ring<C: Ledger>(served: Served<'_>, ring: RingNumber, steps: &mut Steps<C>) -> usize
+pub(crate) fn place_of_ring<C: Ledger>(
+    served: Served<'_>,
+    ring: RingNumber,
+    steps: &mut Steps<C>,
+) -> usize
     requires { IsSomeRing (contents_of_view served) ring }
     ensures place { result ≡ place_of_ring (contents_of_view served.entry) ring }
     ensures within { result ≤ length (contents_of_view served.entry).faces }

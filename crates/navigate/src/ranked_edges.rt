@@ -1,13 +1,16 @@
 //! The edges at some positions of a walk, whose ids are read together.
 
-ghost use Rattle.std.specs.Prelude.{ℤ, List, ◌≡◌, ◌≤◌, ◌+◌, ◌*◌, length, map};
+ghost use Rattle.std.specs.Prelude.{ℤ, List, ◌≡◌, ◌≤◌, ◌+◌, ◌*◌, ◌++◌, length, map};
 ghost use Rattle.bit_words.specs.Digits.{digits};
 ghost use Rattle.id_names.specs.Views.{ids_of, names_in};
 ghost use Rattle.navigate.specs.Ranked.{AreRanksOf, low_of};
+ghost use Rattle.navigate.specs.FirstEdges.{edges_in as first_in};
 ghost use Rattle.navigate.specs.Several.{edges_in};
+ghost use Rattle.navigate.specs.declared.first_edges.TheConstants.{FIRST};
 ghost use Rattle.navigate.specs.declared.several.TheConstants.{SEVERAL};
 
 use crate::directed::with_direction;
+use crate::first_edges::FirstEdges;
 use crate::ranked::RankedEdge;
 use crate::several::{SEVERAL, Several};
 use arrayvec::ArrayVec;
@@ -53,7 +56,7 @@ pub(crate) fn edges_of<C: Ledger>(
     requires few { length ranks.now ≤ SEVERAL }
     requires ranks { (edges : List ℤ) × AreRanksOf (names_in names.now) ranks.now edges }
     ensures edges { (given : List ℤ) → AreRanksOf (names_in names.now) ranks.now given → edges_in edges.new ≡ given }
-    ensures grows { steps.old ≤ steps.new }
+    ensures least { steps.old + length ranks.now ≤ steps.new }
     ensures cost { steps.new ≤ steps.old + (3 * digits (length (ids_of names.now) + 2) + 18) * length ranks.now }
 {
     edges.clear();
@@ -62,5 +65,29 @@ pub(crate) fn edges_of<C: Ledger>(
         let low = lows.as_slice()[place];
         let id = names.id_with(ranked.rank as usize, low, steps);
         edges.push(with_direction(id, ranked.is_forward));
+    }
+}
+
+/// Puts down the signed edges of these ranks among the names behind those that stand there, several at once.
+pub(crate) fn put_down<C: Ledger>(
+    names: &NamesView<'_>,
+    ranks: &[RankedEdge],
+    edges: &mut FirstEdges,
+    steps: &mut Steps<C>,
+)
+    requires room { length (first_in edges.old) + length ranks.now ≤ FIRST }
+    requires ranks { (edges : List ℤ) × AreRanksOf (names_in names.now) ranks.now edges }
+    ensures edges { (given : List ℤ) → AreRanksOf (names_in names.now) ranks.now given
+        → first_in edges.new ≡ first_in edges.old ++ given }
+    ensures least { steps.old + length ranks.now ≤ steps.new }
+    ensures cost { steps.new ≤ steps.old + (3 * digits (length (ids_of names.now) + 2) + 18) * length ranks.now }
+{
+    let mut several = Several::none();
+    let mut from = 0;
+    while from < ranks.len() {
+        let to = ranks.len().min(from + SEVERAL);
+        edges_of(names, &ranks[from..to], &mut several, steps);
+        edges.extend(several.as_slice());
+        from = to;
     }
 }

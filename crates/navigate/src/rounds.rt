@@ -1,15 +1,17 @@
 //! The walks round a node and round a ring.
 
-ghost use Rattle.std.specs.Prelude.{◌≡◌, ◌<◌, ◌≤◌, ◌+◌, ◌*◌, length, is_some, IfSome, MatchOption};
+ghost use Rattle.std.specs.Prelude.{◌≡◌, ◌<◌, ◌≤◌, ◌+◌, ◌*◌, ◌++◌, [], length, is_some, IfSome, MatchOption};
 ghost use Rattle.plane_model.specs.Answers.{has_node, has_signed_edge};
 ghost use Rattle.plane_model.specs.Lists.{node_edges, ring_edges};
 ghost use Rattle.pemb_file.specs.Served.{contents_of_view};
 ghost use Rattle.navigate.specs.Bound.{served_map, most_words};
+ghost use Rattle.navigate.specs.FirstEdges.{edges_in};
 ghost use Rattle.navigate.specs.Least.{smallest_of, from_smallest};
 ghost use Rattle.navigate.specs.OrbitWalk.{contents_in, rest, price, rank_price, allowance};
 
+use crate::first_edges::FirstEdges;
 use crate::orbit_walk::{NodeWalk, OrbitWalk, RingWalk};
-use crate::search::begun_at_smallest;
+use crate::search::{begun_at_smallest, edges_from_smallest};
 use crate::{names, positions};
 use bit_words::Steps;
 use pemb_file::Served;
@@ -55,6 +57,32 @@ pub fn node_walk<'a, C: Ledger>(
     };
     match served.code().first_of_node(number as u32, steps) {
         Some(p) => Some(walk_from_smallest(served, true, p, steps)),
+        None => Some(OrbitWalk::over(served)),
+    }
+}
+
+/// The same, with the signed edges put down before all others, where they are fewer than there is room for, and else
+/// none. The walk gives the rest. None are put down where the map has no such node.
+pub fn node_walk_begun<'a, C: Ledger>(
+    served: Served<'a>,
+    node: NodeId,
+    edges: &mut FirstEdges,
+    steps: &mut Steps<C>,
+) -> Option<NodeWalk<'a>>
+    ensures known { is_some result ≡ has_node (served_map served.entry) node.0 }
+    ensures list { MatchOption result (edges_in edges.new ≡ [])
+        (λ w. edges_in edges.new ++ rest w ≡ node_edges (served_map served.entry) node.0) }
+    ensures least { steps.old + length (edges_in edges.new) ≤ steps.new }
+    ensures paid { MatchOption result (steps.new ≤ steps.old + most_words (served_map served.entry) 0 0)
+        (λ w. steps.new + allowance w ≤ steps.old + most_words (served_map served.entry)
+        (length (edges_in edges.new ++ rest w)) (length (edges_in edges.new ++ rest w))) }
+{
+    edges.clear();
+    let Some(number) = names::node_number(served, node, steps) else {
+        return None;
+    };
+    match served.code().first_of_node(number as u32, steps) {
+        Some(p) => Some(edges_from_smallest(served, true, p, edges, steps)),
         None => Some(OrbitWalk::over(served)),
     }
 }
