@@ -60,7 +60,7 @@ module _ (c : Contents) (h : is_whole c ≡ true) where
       let more = faces-named ps (λ x there. within x (or_right (x == p) (has ps x) there)) in
       ap (λ f. f ∷ map (λ d. side m (reverse d)) (map (signed_at c) ps)) one ∙ ap (λ fs. face_at_place c (place_across c p) ∷ fs) more
 
-  places-low : (ps : List ℕ) → ((x : ℕ) → has ps x ≡ true → x < length c.code.a) → (y : ℕ) → has (map (place_across c) ps) y ≡ true → y ≤ length c.faces
+  pub places-low : (ps : List ℕ) → ((x : ℕ) → has ps x ≡ true → x < length c.code.a) → (y : ℕ) → has (map (place_across c) ps) y ≡ true → y ≤ length c.faces
   places-low [] within y there = let no : has [] y ≡ true = there in cc
   places-low (p ∷ ps) within y there =
       elim (or_cases (y == place_across c p) (has (map (place_across c) ps) y) there) [
@@ -97,7 +97,7 @@ module _ (c : Contents) (h : is_whole c ≡ true) where
       none y there = cc
 
   -- two digits leave room for no edge
-  no_edges : line_digits c ≤ 2 → length c.code.a ≡ 0
+  pub no_edges : line_digits c ≤ 2 → length c.code.a ≡ 0
   no_edges l =
       let s = (w c h).sizes.positions in
       elim (cases_lt 0 (length c.edges)) [
@@ -105,7 +105,7 @@ module _ (c : Contents) (h : is_whole c ≡ true) where
         | inr g ↦ omega (arith, s, g)
       ]
 
-  no_positions : (ps : List ℕ) → ((x : ℕ) → has ps x ≡ true → x < length c.code.a) → length c.code.a ≡ 0 → length ps ≡ 0
+  pub no_positions : (ps : List ℕ) → ((x : ℕ) → has ps x ≡ true → x < length c.code.a) → length c.code.a ≡ 0 → length ps ≡ 0
   no_positions [] within e = refl
   no_positions (p ∷ ps) within e = let l = own p ps within in absurd (omega (arith, l, e))
 

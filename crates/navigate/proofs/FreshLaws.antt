@@ -27,7 +27,7 @@ pub unseen-none : (m : Contents) (f : ℕ) (seen : List ℕ) → unseen m f seen
 unfolding unseen
 unseen-none m f seen = refl
 
-occurrences-alike : (seen other xs : List ℕ) → ((j : ℕ) → has seen j ≡ has other j) → first_occurrences_but seen xs ≡ first_occurrences_but other xs
+pub occurrences-alike : (seen other xs : List ℕ) → ((j : ℕ) → has seen j ≡ has other j) → first_occurrences_but seen xs ≡ first_occurrences_but other xs
 occurrences-alike seen other [] h = refl
 occurrences-alike seen other (x ∷ xs) h =
     elim (cases_Bool (has other x)) [

@@ -38,12 +38,17 @@ least-left m p q xs qs d e x f g b h k =
     let one : least m p (q ∷ qs) ≡ least m p qs = ap (λ t. least m (if t then q else p) qs) test in
     sym one ∙ ap (least m p) (sym h) ∙ k
 
+-- what one more of a walk costs, at a price
+pub paid-more : (price q : ℕ) (xs qs : List ℕ) (first last bound : ℕ) → xs ≡ q ∷ qs → first + price * length xs ≤ bound
+    → last ≤ first + price → last + price * length qs ≤ bound
+paid-more price q xs qs first last bound e b h =
+    let more : price * suc (length qs) ≡ price * length qs + price = omega arith in
+    let l : price * length xs ≡ price * length qs + price = ap (λ ys. price * length ys) e ∙ more in
+    omega (arith, l, b, h)
+
 pub paid-one : (m : Contents) (q : ℕ) (xs qs : List ℕ) (first last bound : ℕ) → xs ≡ q ∷ qs → first + rank_price m * length xs ≤ bound
     → last ≤ first + rank_price m → last + rank_price m * length qs ≤ bound
-paid-one m q xs qs first last bound e b h =
-    let more : rank_price m * suc (length qs) ≡ rank_price m * length qs + rank_price m = omega arith in
-    let l : rank_price m * length xs ≡ rank_price m * length qs + rank_price m = ap (λ ys. rank_price m * length ys) e ∙ more in
-    omega (arith, l, b, h)
+paid-one m q xs qs first last bound e b h = paid-more (rank_price m) q xs qs first last bound e b h
 
 -- the smallest is one of them
 pub least-among : (m : Contents) (p : ℕ) (qs : List ℕ) → Contains (p ∷ qs) (least m p qs)

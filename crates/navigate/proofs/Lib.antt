@@ -1,4 +1,5 @@
 pub mod Walking
+pub mod BegunWalks
 pub mod Resting
 pub mod Leasts
 pub mod OrbitLengths
@@ -20,6 +21,8 @@ pub mod StandingLaws
 pub mod Occurrences
 pub mod WithinLaws
 pub mod AcrossLaws
+pub mod BegunLaws
 pub mod ClearLaws
 pub mod RankLists
 pub mod FaceSides
+pub mod Turning

@@ -24,7 +24,7 @@ use Rattle.navigate.specs.OrbitWalk.{contents_in, rest, price, rank_price, allow
 use Rattle.navigate.specs.declared.orbit_walk.OrbitWalk.{OrbitWalk}
 use Rattle.navigate.proofs.Leasts.{least-among}
 
-filter-same : (t u : ℕ → Bool) (xs : List ℕ) → ((x : ℕ) → t x ≡ u x) → filter t xs ≡ filter u xs
+pub filter-same : (t u : ℕ → Bool) (xs : List ℕ) → ((x : ℕ) → t x ≡ u x) → filter t xs ≡ filter u xs
 filter-same t u [] h = refl
 filter-same t u (x ∷ xs) h =
     elim (cases_Bool (u x)) [
@@ -32,7 +32,7 @@ filter-same t u (x ∷ xs) h =
       | inr f ↦ rw (h x, f) (filter-same t u xs h)
     ]
 
-range-split : (low p n total : ℕ) → total ≡ p + n → range_with_len low total ≡ range_with_len low p ++ range_with_len (low + p) n
+pub range-split : (low p n total : ℕ) → total ≡ p + n → range_with_len low total ≡ range_with_len low p ++ range_with_len (low + p) n
 range-split low zero n total e =
     let same : total ≡ n = omega arith in
     let there : low ≡ low + 0 = omega arith in
@@ -53,7 +53,7 @@ turned t n p l =
     let other = ap (λ xs. length (filter t xs)) all ∙ ap length (filter-append t front back) ∙ length-append (filter t front) (filter t back) in
     omega (arith, one, other)
 
-beside-alike : (c : Code) (kind : Bool) (p q x : ℕ) → AreBeside c kind p q → is_beside c kind q x ≡ is_beside c kind p x
+pub beside-alike : (c : Code) (kind : Bool) (p q x : ℕ) → AreBeside c kind p q → is_beside c kind q x ≡ is_beside c kind p x
 beside-alike c kind p q x b =
     ap (λ y. (y == component_of c x) && same_number (enclosing_pair c kind q) (enclosing_pair c kind x)) b.component
     ∙ ap (λ o. (component_of c p == component_of c x) && same_number o (enclosing_pair c kind x)) b.number

@@ -15,6 +15,7 @@ mod inside;
 mod islands;
 mod kept_stops;
 mod look_ups;
+mod looks;
 mod names;
 mod neighbours;
 mod orbit_walk;

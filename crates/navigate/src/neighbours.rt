@@ -1,15 +1,17 @@
 //! The walk to the faces across the edges of a face, from its beginning.
 
 ghost use Rattle.std.specs.Prelude.{ℕ, List, true, ◌≡◌, ◌<◌, ◌≤◌, ◌+◌, ◌*◌, ◌==◌, ◌++◌, if◌then◌else◌, [], map, drop, take, length, is_some, IfSome, MatchOption};
-ghost use Rattle.plane_model.specs.Sets.{has, first_occurrences_but};
+ghost use Rattle.plane_model.specs.Sets.{has, first_occurrences, first_occurrences_but};
 ghost use Rattle.scratch_region.specs.Marks.{room_of, is_marked, IsEmpty};
 ghost use Rattle.file_laws.specs.MapOfFile.{face_at_place};
 ghost use Rattle.plane_model.specs.Rotation.{is_face};
 ghost use Rattle.plane_model.specs.Lists.{face_edges, adjacent, shell, ring_if_some};
 ghost use Rattle.pemb_file.specs.Served.{contents_of_view};
-ghost use Rattle.navigate.specs.Bound.{served_map, most_words, line_digits};
+ghost use Rattle.navigate.specs.Bound.{served_map, most_words, line_digits, line_words};
 ghost use Rattle.navigate.specs.Beside.{place_across, others};
+ghost use Rattle.navigate.specs.Holes.{components_between, outer_positions};
 ghost use Rattle.navigate.specs.OrbitWalk as orbits;
+ghost use Rattle.navigate.specs.FaceWalk as rings;
 ghost use Rattle.navigate.specs.AdjacentWalk.{contents_in, given, given_places, rest, allowance, HoldsGiven};
 ghost use Rattle.navigate.specs.declared.first_edges.TheConstants.{FIRST};
 
@@ -70,7 +72,7 @@ fn shell_places<'a, C: Ledger>(
     ensures before { result.1 ≤ length places.new.items }
     ensures places { 0 < length places.new.items → drop result.1 places.new.items ++ take result.1 places.new.items
         ≡ map (place_across (contents_of_view served.entry)) (orbits.positions_left result.0) }
-    ensures grows { steps.old ≤ steps.new }
+    ensures least { steps.old + length places.new.items ≤ steps.new }
     ensures cost { steps.new ≤ steps.old + (6 * line_digits (contents_of_view served.entry) + 24
         + orbits.across_price (contents_of_view served.entry) * length (orbits.positions_left result.0)) }
 {
@@ -89,6 +91,7 @@ fn enter_unseen(place: usize, across: &[u32], marks: &mut Marks<'_>, given: &mut
     requires marked { (j : ℕ) → has across.now j ≡ true → j < room_of marks.old }
     requires room { length given.old.items + length across.now ≤ FIRST }
     ensures room { room_of marks.new ≡ room_of marks.old }
+    ensures few { length given.new.items ≤ length given.old.items + length across.now }
     ensures places { (seen : List ℕ) → ((j : ℕ) → is_marked marks.old j ≡ has seen j)
         → given.new.items ≡ given.old.items ++ first_occurrences_but seen (others place across.now) }
     ensures marks { (seen : List ℕ) → ((j : ℕ) → is_marked marks.old j ≡ has seen j) → (j : ℕ)
@@ -100,6 +103,54 @@ fn enter_unseen(place: usize, across: &[u32], marks: &mut Marks<'_>, given: &mut
             marks.set(place_found);
             given.push(*found);
         }
+    }
+}
+
+/// The same for all places, from the one of this number on and then those before it, where none is marked yet.
+fn enter_turned(
+    place: usize,
+    across: &[u32],
+    before: usize,
+    marks: &mut Marks<'_>,
+    given: &mut Places,
+)
+    requires before { before ≤ length across.now }
+    requires few { length across.now ≤ FIRST }
+    requires marked { (j : ℕ) → has across.now j ≡ true → j < room_of marks.old }
+    requires none { given.old.items ≡ [] }
+    requires empty { IsEmpty marks.old }
+    ensures room { room_of marks.new ≡ room_of marks.old }
+    ensures few { length given.new.items ≤ length across.now }
+    ensures places { given.new.items ≡ first_occurrences (others place (drop before across.now ++ take before across.now)) }
+    ensures marks { (j : ℕ) → is_marked marks.new j ≡ has given.new.items j }
+{
+    enter_unseen(place, &across[before..], marks, given);
+    enter_unseen(place, &across[..before], marks, given);
+}
+
+/// The walk along all rings where no places were put down, and else along those of the holes.
+#[inline(always)]
+fn left_of<'a, C: Ledger>(
+    served: Served<'a>,
+    whole: FaceWalk<'a>,
+    none: bool,
+    hole: usize,
+    end: usize,
+    steps: &mut Steps<C>,
+) -> FaceWalk<'a>
+    requires same { rings.contents_in whole ≡ contents_of_view served }
+    requires ends { end ≤ length (contents_of_view served).place_order }
+    ensures contents { rings.contents_in result ≡ contents_of_view served.entry }
+    ensures positions { rings.face_positions result ≡ (if none then rings.face_positions whole.entry
+        else outer_positions (contents_of_view served.entry)
+        (components_between (contents_of_view served.entry) hole end)) }
+    ensures grows { steps.old ≤ steps.new }
+    ensures cost { steps.new ≤ steps.old + 2 }
+{
+    if none {
+        whole
+    } else {
+        FaceWalk::settled(served, OrbitWalk::over(served), hole, end, steps)
     }
 }
 
@@ -140,10 +191,10 @@ fn begun_beside<'a, C: Ledger>(
     ensures room { room_of marks.new ≡ room_of marks.old }
     ensures marks { HoldsGiven result marks.new }
     ensures least { steps.old + length faces.new.items ≤ steps.new }
-    ensures paid { steps.new + allowance result ≤ steps.old + (128 * line_digits (contents_of_view served.entry)
-        + 256 * line_digits (contents_of_view served.entry)
-        * (length (face_edges (served_map served.entry) (face_at_place (contents_of_view served.entry) place))
-        + length (faces.new.items ++ rest result))) }
+    ensures paid { steps.new + allowance result + (12 * line_digits (contents_of_view served.entry) + 60)
+        ≤ steps.old + line_words (contents_of_view served.entry)
+        (length (face_edges (served_map served.entry) (face_at_place (contents_of_view served.entry) place)))
+        (length (faces.new.items ++ rest result)) }
 {
     let hole = components_below(served, place, steps);
     let end = components_to(served, place, hole, steps);
@@ -151,13 +202,8 @@ fn begun_beside<'a, C: Ledger>(
     let (ring, before) = shell_places(served, place, &mut across, steps);
     let whole = FaceWalk::settled(served, ring, hole, end, steps);
     let mut given = Places::new();
-    enter_unseen(place, &across.as_slice()[before..], marks, &mut given);
-    enter_unseen(place, &across.as_slice()[..before], marks, &mut given);
-    let mut left = if across.is_empty() {
-        whole
-    } else {
-        FaceWalk::settled(served, OrbitWalk::over(served), hole, end, steps)
-    };
+    enter_turned(place, across.as_slice(), before, marks, &mut given);
+    let mut left = left_of(served, whole, across.is_empty(), hole, end, steps);
     put_down_faces(served, given.as_slice(), faces, steps);
     let next = to_unseen(&mut left, place, marks, steps);
     AdjacentWalk::begun(place, whole, left, given.as_slice(), next)

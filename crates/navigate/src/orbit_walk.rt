@@ -7,8 +7,8 @@ ghost use Rattle.navigate.specs.KeptStops.{AreKept};
 
 use crate::directed::with_direction;
 use crate::kept_stops::KeptStops;
-use crate::positions::place_of_ring;
-use crate::ranked::{RankedEdge, ranked_with};
+use crate::looks::{AcrossStop, RankedStop, look_across, look_at};
+use crate::ranked::RankedEdge;
 use crate::ranked_edges::{RankedEdges, edges_of};
 use crate::several::Several;
 use bit_words::Steps;
@@ -16,23 +16,6 @@ use id_names::NamesView;
 use pemb_file::Served;
 use std::sync::ledger::Ledger;
 use topo_base::Signed;
-
-/// What a walk finds at a position: the signed edge there, by its rank, and the position after it.
-#[derive(Clone, Copy)]
-struct RankedStop {
-    edge: RankedEdge,
-    /// The position itself, or its mate where the walk goes over its edge.
-    over: usize,
-    next: usize,
-}
-
-/// What a walk round a ring finds at a position, and the place of the face across its edge.
-#[derive(Clone, Copy)]
-pub(crate) struct AcrossStop {
-    pub(crate) at: usize,
-    pub(crate) edge: RankedEdge,
-    pub(crate) across: usize,
-}
 
 /// A walk round a node or a ring: what is left of it, from a position on until it comes back to the first.
 #[derive(Clone, Copy)]
@@ -74,7 +57,6 @@ impl<'a> OrbitWalk<'a> {
     ghost use Rattle.id_names.specs.Views.{names_in};
     ghost use Rattle.navigate.specs.OrbitWalk.{contents_in, edge_names, positions_left, rest, price, rank_price, across_price, allowance};
     ghost use Rattle.navigate.specs.Beside.{place_across};
-    ghost use Rattle.navigate.specs.KeptStops.{IsSeen};
     ghost use Rattle.navigate.specs.Ranked.{IsRankOf, AreRanksOf};
     ghost use Rattle.navigate.specs.Several.{edges_in};
 
@@ -219,40 +201,8 @@ impl<'a> OrbitWalk<'a> {
         Some(p)
     }
 
-    /// The signed edge at the next position by its rank among the names of the edges, and the position after that one, of
-    /// which nothing is kept.
-    #[inline(always)]
-    fn look_once<C: Ledger>(&mut self, steps: &mut Steps<C>) -> RankedStop
-        requires { 0 < self.old.left }
-        ensures same { (self.new.at ≡ self.old.at) × (self.new.left ≡ self.old.left) }
-        ensures positions { positions_left self.new ≡ positions_left self.old }
-        ensures contents { contents_in self.new ≡ contents_in self.old }
-        ensures names { edge_names self.new ≡ edge_names self.old }
-        ensures kind { self.new.kind ≡ self.old.kind }
-        ensures seen { IsSeen (edge_names self.old) (contents_in self.old) self.old.kind self.old.at result.over result.edge }
-        ensures next { result.next ≡ codes.step (contents_in self.old).code self.old.kind self.old.at }
-        ensures within { result.next < length (contents_in self.old).code.a }
-        ensures some_steps { steps.old + 1 ≤ steps.new }
-        ensures cost { steps.new ≤ steps.old + rank_price (contents_in self.old) }
-    {
-        let p = self.at;
-        let code = self.served.code();
-        let stop = code.stop(self.kind, p, &mut self.component, steps);
-        let edge = ranked_with(
-            self.served,
-            self.edges,
-            stop.edge as usize,
-            stop.is_first,
-            steps,
-        );
-        RankedStop {
-            edge,
-            over: stop.over,
-            next: stop.next,
-        }
-    }
-
-    /// The same, by what is kept of the next position, or by what is kept of it then.
+    /// The signed edge at the next position by its rank among the names of the edges, and the position after that one: by
+    /// what is kept of that position, or else by a look at it, which is kept.
     #[inline(always)]
     fn look<C: Ledger>(&mut self, steps: &mut Steps<C>) -> RankedStop
         requires { 0 < self.old.left }
@@ -276,7 +226,14 @@ impl<'a> OrbitWalk<'a> {
                 next: self.served.code().after(over, &mut self.component, steps),
             };
         }
-        let stop = self.look_once(steps);
+        let stop = look_at(
+            self.served,
+            self.edges,
+            self.kind,
+            p,
+            &mut self.component,
+            steps,
+        );
         self.kept.keep(p, stop.over, stop.edge);
         stop
     }
@@ -350,45 +307,46 @@ impl<'a> OrbitWalk<'a> {
             return None;
         }
         let p = self.at;
-        let stop = self.look_once(steps);
+        let stop = look_at(
+            self.served,
+            self.edges,
+            self.kind,
+            p,
+            &mut self.component,
+            steps,
+        );
         self.go_on(stop.next);
         Some((p, stop.edge))
     }
 
     /// The same of a walk round a ring, with the place of the face across the edge.
     #[inline(always)]
-    pub(crate) fn across_once<C: Ledger>(&mut self, steps: &mut Steps<C>) -> Option<AcrossStop>
+    pub(crate) fn across_once<C: Ledger>(
+        &mut self,
+        steps: &mut Steps<C>,
+    ) -> Option<(usize, AcrossStop)>
         requires { self.old.kind ≡ false }
         ensures contents { contents_in self.new ≡ contents_in self.old }
         ensures names { edge_names self.new ≡ edge_names self.old }
         ensures kind { self.new.kind ≡ false }
         ensures next { MatchOption result (positions_left self.old ≡ [])
-            (λ found. positions_left self.old ≡ found.at ∷ positions_left self.new) }
-        ensures edge { IfSome result (λ found. IsRankOf (edge_names self.old) found.edge
-            (signed_at (contents_in self.old) found.at)) }
-        ensures across { IfSome result (λ found. found.across ≡ place_across (contents_in self.old) found.at) }
-        ensures low { IfSome result (λ found. found.across ≤ length (contents_in self.old).faces) }
+            (λ found. positions_left self.old ≡ found.0 ∷ positions_left self.new) }
+        ensures edge { IfSome result (λ found. IsRankOf (edge_names self.old) found.1.edge
+            (signed_at (contents_in self.old) found.0)) }
+        ensures across { IfSome result (λ found. found.1.across ≡ place_across (contents_in self.old) found.0) }
+        ensures low { IfSome result (λ found. found.1.across ≤ length (contents_in self.old).faces) }
         ensures within { MatchOption result (positions_left self.new ≡ [])
-            (λ found. found.at < length (contents_in self.old).code.a) }
+            (λ found. found.0 < length (contents_in self.old).code.a) }
         ensures cost { MatchOption result (steps.new ≡ steps.old) (λ _. (steps.old + 1 ≤ steps.new)
             × (steps.new ≤ steps.old + across_price (contents_in self.old))) }
     {
         if self.left == 0 {
             return None;
         }
-        let at = self.at;
-        let code = self.served.code();
-        let stop = code.ring_stop(at, &mut self.component, steps);
-        let edge = ranked_with(
-            self.served,
-            self.edges,
-            stop.edge as usize,
-            stop.is_first,
-            steps,
-        );
-        let across = place_of_ring(self.served, stop.across, steps);
+        let p = self.at;
+        let stop = look_across(self.served, self.edges, p, &mut self.component, steps);
         self.go_on(stop.next);
-        Some(AcrossStop { at, edge, across })
+        Some((p, stop))
     }
 
     /// The next signed edge, or None at the end.

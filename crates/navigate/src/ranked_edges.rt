@@ -1,6 +1,6 @@
 //! The edges at some positions of a walk, whose ids are read together.
 
-ghost use Rattle.std.specs.Prelude.{ℤ, List, ◌≡◌, ◌≤◌, ◌+◌, ◌*◌, ◌++◌, length, map};
+ghost use Rattle.std.specs.Prelude.{ℤ, List, ◌≡◌, ◌≤◌, ◌+◌, ◌*◌, ◌++◌, [], drop, take, length, map};
 ghost use Rattle.bit_words.specs.Digits.{digits};
 ghost use Rattle.id_names.specs.Views.{ids_of, names_in};
 ghost use Rattle.navigate.specs.Ranked.{AreRanksOf, low_of};
@@ -83,11 +83,33 @@ pub(crate) fn put_down<C: Ledger>(
     ensures cost { steps.new ≤ steps.old + (3 * digits (length (ids_of names.now) + 2) + 18) * length ranks.now }
 {
     let mut several = Several::none();
-    let mut from = 0;
-    while from < ranks.len() {
-        let to = ranks.len().min(from + SEVERAL);
-        edges_of(names, &ranks[from..to], &mut several, steps);
+    let mut left = ranks;
+    while !left.is_empty() {
+        let (now, later) = left.split_at(left.len().min(SEVERAL));
+        edges_of(names, now, &mut several, steps);
         edges.extend(several.as_slice());
-        from = to;
+        left = later;
     }
+}
+
+/// Puts down the signed edges of these ranks from one of them on, and then those before it, where none stand there yet.
+pub(crate) fn put_down_turned<C: Ledger>(
+    names: &NamesView<'_>,
+    ranks: &[RankedEdge],
+    before: usize,
+    edges: &mut FirstEdges,
+    steps: &mut Steps<C>,
+)
+    requires none { first_in edges.old ≡ [] }
+    requires room { length ranks.now ≤ FIRST }
+    requires before { before ≤ length ranks.now }
+    requires ranks { (edges : List ℤ) × AreRanksOf (names_in names.now) ranks.now edges }
+    ensures edges { (given : List ℤ) → AreRanksOf (names_in names.now) ranks.now given
+        → first_in edges.new ≡ drop before given ++ take before given }
+    ensures least { steps.old + length ranks.now ≤ steps.new }
+    ensures cost { steps.new ≤ steps.old + (3 * digits (length (ids_of names.now) + 2) + 18) * length ranks.now }
+{
+    let (front, back) = ranks.split_at(before);
+    put_down(names, back, edges, steps);
+    put_down(names, front, edges, steps);
 }

@@ -13,7 +13,7 @@ ghost use Rattle.navigate.specs.Ranked.{IsRankOf};
 use crate::first_edges::{FIRST, FirstEdges};
 use crate::orbit_walk::OrbitWalk;
 use crate::ranked::RankedEdge;
-use crate::ranked_edges::put_down;
+use crate::ranked_edges::put_down_turned;
 use arrayvec::ArrayVec;
 use bit_words::Steps;
 use pemb_file::Served;
@@ -118,15 +118,15 @@ pub(crate) fn edges_from_smallest<'a, C: Ledger>(
     ranks.push(best.1);
     while !ranks.is_full() {
         let Some(found) = walk.ranked_once(steps) else {
-            put_down(names, &ranks.as_slice()[before..], edges, steps);
-            put_down(names, &ranks.as_slice()[..before], edges, steps);
+            put_down_turned(names, ranks.as_slice(), before, edges, steps);
             return walk;
         };
+        let count = ranks.len();
+        ranks.push(found.1);
         if found.1.is_less(best.1) {
             best = found;
-            before = ranks.len();
+            before = count;
         }
-        ranks.push(found.1);
     }
     searched(served, kind, p, walk, best, steps)
 }
@@ -149,6 +149,7 @@ pub(crate) fn places_from_smallest<'a, C: Ledger>(
     ensures before { result.1 ≤ length places.new.items }
     ensures places { 0 < length places.new.items → drop result.1 places.new.items ++ take result.1 places.new.items
         ≡ map (place_across (contents_of_view served.entry)) (positions_left result.0) }
+    ensures least { steps.old + length places.new.items ≤ steps.new }
     ensures some_steps { steps.old + 1 ≤ steps.new }
     ensures cost { steps.new ≤ steps.old + across_price (contents_of_view served.entry)
         * length (orbit (contents_of_view served.entry).code false p) }
@@ -160,19 +161,20 @@ pub(crate) fn places_from_smallest<'a, C: Ledger>(
     let Some(first) = walk.across_once(steps) else {
         unreachable!()
     };
-    let mut best = (first.at, first.edge);
+    let mut best = (first.0, first.1.edge);
     let mut before = 0;
-    places.push(first.across as u32);
+    places.push(first.1.across as u32);
     while !places.is_full() {
         let Some(found) = walk.across_once(steps) else {
             walk.begin_at(best.0);
             return (walk, before);
         };
-        if found.edge.is_less(best.1) {
-            best = (found.at, found.edge);
-            before = places.len();
+        let count = places.len();
+        places.push(found.1.across as u32);
+        if found.1.edge.is_less(best.1) {
+            best = (found.0, found.1.edge);
+            before = count;
         }
-        places.push(found.across as u32);
     }
     places.clear();
     (searched(served, false, p, walk, best, steps), 0)

@@ -38,6 +38,10 @@ listed_some x all rest more some a b c p e w = listed_bytes x all rest more (fla
 pub listed_all : {X E : Type 0} (x : X) (all rest : List Item) (a b : Out) → IsListed all rest a b → rest ≡ [] → Writes {X = X} {E = E} (Ok x) a b (flat_map item_text all)
 listed_all x all rest a b p e = rw (← (sym (append-nil p.done) ∙ ap (λ xs. p.done ++ flat_map item_text xs) (sym e) ∙ p.split)) (writes_ok tt x a b p.done p.writes)
 
+-- the others are listed behind those that were
+pub listed_then : {X E : Type 0} (r : Result X E) (all rest : List Item) (a b c : Out) → IsListed all rest a b → Writes r b c (flat_map item_text rest) → Writes r a c (flat_map item_text all)
+listed_then r all rest a b c p w = rw (← p.split) (writes_more tt r a b c p.done (flat_map item_text rest) p.writes w)
+
 part_bytes : {X E Y F : Type 0} (r : Result X E) (P : E → Type 0) (f : F) (all rest more : List Item) (bytes : List ℕ) (a b c : Out) → IsListed all rest a b → flat_map item_text rest ≡ bytes ++ flat_map item_text more → IsErrAnd r P → Writes {X = Y} {E = F} (Err f) b c bytes → Writes r a c (flat_map item_text all)
 part_bytes r P f all rest more bytes a b c p e is w =
     rw (← (ap (λ z. p.done ++ z) (sym e) ∙ p.split))

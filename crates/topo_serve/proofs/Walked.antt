@@ -1,7 +1,7 @@
 -- Walks of known things, as items.
 use Rattle.std.specs.Prelude.{map, length, unwrap_or, option_map, is_some, IfSome, MatchOption, OnOk}
-use Rattle.std.proofs.Common.{◌≡◌, refl, ℕ, ◌+◌, ◌≤◌, List, [], Option, None, Some, Result, Ok, Err, Bool, if◌then◌else◌, ap, arith}
-use Rattle.std.proofs.lemmas.List.{length-map}
+use Rattle.std.proofs.Common.{◌≡◌, refl, ℕ, ◌+◌, ◌≤◌, List, [], ◌++◌, Option, None, Some, Result, Ok, Err, Bool, true, false, if◌then◌else◌, ap, sym, ◌∙◌, arith}
+use Rattle.std.proofs.lemmas.List.{length-map, length-append, map-append}
 use Rattle.topo_base.specs.Script.{Item}
 use Rattle.plane_model.specs.PlaneMap.{PlaneMap}
 use Rattle.plane_model.specs.Answers.{where_known}
@@ -53,3 +53,25 @@ pub by_items : {W X : Type 0} (m : PlaneMap) (walk : Option W) (rest : W → Lis
     → MatchOption walk (t ≤ s + most_words m 0 0) (λ w. t + allowance w ≤ s + most_words m 0 (length (map item (rest w))))
 by_items m None rest allowance item s t p = p
 by_items m (Some w) rest allowance item s t p = rw (length-map (rest w) item) p
+
+-- signed edges or numbers that are put down before a walk's are the answer's first
+module _ {X : Type 0} (item : X → Item) (known : Bool) (some rest xs : List X) (all : some ++ rest ≡ xs) where
+  pub begun_items : map item some ++ map item rest ≡ map item xs
+  begun_items = sym (map-append item some rest) ∙ ap (map item) all
+
+  begun_many : length some + length rest ≡ length (map item xs)
+  begun_many = sym (length-append some rest) ∙ ap length all ∙ sym (length-map xs item)
+
+  pub least_begun : {Y E : Type 0} (r : Result Y E) (s t u : ℕ) → true ≡ known → s + length some ≤ t → OnOk r (t + length (map item rest) ≤ u) → OnOk r (s + length (unwrap_or (where_known known (map item xs)) []) ≤ u)
+  least_begun (Err e) s t u k g p = tt
+  least_begun (Ok y) s t u k g p = let n = length-map rest item in rw (← k) (omega (arith, g, p, n, begun_many))
+
+  pub paid_begun : (m : PlaneMap) (s t u a : ℕ) → true ≡ known → t + a ≤ s + most_words m (length (some ++ rest)) (length (some ++ rest)) → u ≤ t + a
+      → u ≤ s + most_words m (if known then length xs else 0) (length (unwrap_or (where_known known (map item xs)) []))
+  paid_begun m s t u a k p q =
+      let bound : t + a ≤ s + most_words m (length xs) (length (map item xs)) = rw (length-map xs item) (rw (← all) p) in
+      rw (← k) (omega (arith, bound, q))
+
+pub paid_unknown : {X : Type 0} (m : PlaneMap) (item : X → Item) (known : Bool) (xs : List X) (s t : ℕ) → false ≡ known → t ≤ s + most_words m 0 0
+    → t ≤ s + most_words m (if known then length xs else 0) (length (unwrap_or (where_known known (map item xs)) []))
+paid_unknown m item known xs s t k p = rw (← k) p

@@ -14,11 +14,11 @@ ghost use Rattle.topo_serve.specs.Serving.{words_to_answer, found_by_reads, word
 
 use crate::gathered::{Gathered, gather, gather_both};
 use crate::item::{Item, gather_item};
-use crate::items::{list_known, list_numbers};
+use crate::items::{list_behind, list_known, list_numbers};
 use bit_words::Steps;
 use navigate::{
-    AdjacentWalk, adjacent_walk, common, containing, ends, face_walk, island_walk, next, node_walk,
-    region_walk, ring_walk, sides,
+    AdjacentWalk, FirstEdges, FirstFaces, adjacent_walk_begun, common, containing, ends,
+    face_walk_begun, island_walk, next, node_walk_begun, region_walk, ring_walk, sides,
 };
 use pemb_file::Served;
 use ports::{Failed, Sink};
@@ -44,8 +44,11 @@ fn answer_node<K: Sink, C: Ledger>(
     ensures grows { steps.old ≤ steps.new }
     ensures paid { steps.new ≤ steps.old + words_of_query (served_map served.now) (script.Query.Node node.0) }
 {
-    let mut walk = node_walk(*served, node, steps);
-    list_known(&mut walk, out, text, steps)
+    let mut edges = FirstEdges::none();
+    match node_walk_begun(*served, node, &mut edges, steps) {
+        Some(mut walk) => list_behind(edges.as_slice(), &mut walk, out, text, steps),
+        None => gather(out, text, b" unknown"),
+    }
 }
 
 /// The signed edges of a ring.
@@ -152,8 +155,11 @@ fn answer_face<K: Sink, C: Ledger>(
     ensures grows { steps.old ≤ steps.new }
     ensures paid { steps.new ≤ steps.old + words_of_query (served_map served.now) (script.Query.Face face.0) }
 {
-    let mut walk = face_walk(*served, face, steps);
-    list_known(&mut walk, out, text, steps)
+    let mut edges = FirstEdges::none();
+    match face_walk_begun(*served, face, &mut edges, steps) {
+        Some(mut walk) => list_behind(edges.as_slice(), &mut walk, out, text, steps),
+        None => gather(out, text, b" unknown"),
+    }
 }
 
 /// The components and isolated nodes in a face.
@@ -296,8 +302,34 @@ fn list_across<K: Sink, C: Ledger>(
     Ok(())
 }
 
-/// The faces that a walk still gives. The marks are empty again where it ends, also by a fault.
+/// These faces, and then those that a walk gives, to its end.
+fn list_beside<K: Sink, C: Ledger>(
+    faces: &[IdNumber],
+    walk: &mut AdjacentWalk<'_>,
+    marks: &mut Marks<'_>,
+    out: &mut K,
+    text: &mut Gathered,
+    steps: &mut Steps<C>,
+) -> Result<(), Failed>
+    requires room { length (across.contents_in walk.old).faces < room_of marks.old }
+    requires marks { across.HoldsGiven walk.old marks.old }
+    ensures writes { Writes result (out_at (K.held out.old) (K.faults out.old) text.old.items)
+        (out_at (K.held out.new) (K.faults out.new) text.new.items)
+        (flat_map item_text (map script.Number (faces.now ++ across.rest walk.old))) }
+    ensures contents { across.contents_in walk.new ≡ across.contents_in walk.old }
+    ensures room { room_of marks.new ≡ room_of marks.old }
+    ensures marks { across.HoldsGiven walk.new marks.new }
+    ensures least { OnOk result (steps.old + length (across.rest walk.old) ≤ steps.new) }
+    ensures grows { steps.old ≤ steps.new }
+    ensures paid { steps.new + across.allowance walk.new ≤ steps.old + across.allowance walk.old }
+{
+    list_numbers(out, text, faces)?;
+    list_across(walk, marks, out, text, steps)
+}
+
+/// These faces, and then those that a walk still gives. The marks are empty again where it ends, also by a fault.
 fn list_and_close<K: Sink, C: Ledger>(
+    faces: &[IdNumber],
     mut walk: AdjacentWalk<'_>,
     marks: &mut Marks<'_>,
     out: &mut K,
@@ -310,12 +342,12 @@ fn list_and_close<K: Sink, C: Ledger>(
     ensures empty { IsEmpty marks.new }
     ensures writes { Writes result (out_at (K.held out.old) (K.faults out.old) text.old.items)
         (out_at (K.held out.new) (K.faults out.new) text.new.items)
-        (flat_map item_text (map script.Number (across.rest walk.entry))) }
+        (flat_map item_text (map script.Number (faces.now ++ across.rest walk.entry))) }
     ensures least { OnOk result (steps.old + length (across.rest walk.entry) ≤ steps.new) }
     ensures grows { steps.old ≤ steps.new }
     ensures paid { steps.new ≤ steps.old + across.allowance walk.entry }
 {
-    let listed = list_across(&mut walk, marks, out, text, steps);
+    let listed = list_beside(faces, &mut walk, marks, out, text, steps);
     walk.close(marks, steps);
     listed
 }
@@ -342,8 +374,9 @@ fn answer_adjacent<K: Sink, C: Ledger>(
     ensures grows { steps.old ≤ steps.new }
     ensures paid { steps.new ≤ steps.old + words_of_query (served_map served.now) (script.Query.Adjacent face.0) }
 {
-    match adjacent_walk(*served, face, steps) {
-        Some(walk) => list_and_close(walk, marks, out, text, steps),
+    let mut faces = FirstFaces::new();
+    match adjacent_walk_begun(*served, face, &mut faces, marks, steps) {
+        Some(walk) => list_and_close(faces.as_slice(), walk, marks, out, text, steps),
         None => gather(out, text, b" unknown"),
     }
 }

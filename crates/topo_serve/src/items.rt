@@ -67,6 +67,25 @@ fn list<W: Items, K: Sink, C: Ledger>(
     }
 }
 
+/// Signed edges as items, and then the items of a walk, to its end.
+pub(crate) fn list_behind<W: Items, K: Sink, C: Ledger>(
+    edges: &[Signed],
+    walk: &mut W,
+    out: &mut K,
+    text: &mut Gathered,
+    steps: &mut Steps<C>,
+) -> Result<(), Failed>
+    ensures writes { Writes result (out_at (K.held out.old) (K.faults out.old) text.old.items)
+        (out_at (K.held out.new) (K.faults out.new) text.new.items)
+        (flat_map item_text (map script.Signed_edge edges.now ++ W.items walk.old)) }
+    ensures least { OnOk result (steps.old + length (W.items walk.old) ≤ steps.new) }
+    ensures grows { steps.old ≤ steps.new }
+    ensures paid { steps.new ≤ steps.old + W.allowance walk.old }
+{
+    list_edges(out, text, edges)?;
+    list(walk, out, text, steps)
+}
+
 /// The items of a walk, or that what is asked for is unknown where there is none.
 pub(crate) fn list_known<W: Items, K: Sink, C: Ledger>(
     walk: &mut Option<W>,

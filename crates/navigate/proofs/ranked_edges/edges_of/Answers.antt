@@ -41,7 +41,7 @@ loop-place-preserved g c =
           let same : edge ≡ f.d = rank_signed names (slice_index_or c.args.ranks.now k no_rank) f.d edge c.id_with-id.result f.is c.id_with-id.ensures.id c.with_direction.ensures in
           (f.later, one_given ds old left.0 f.later (edges_in c.push.new.self) edge f.d left.1 f.both same c.push.ensures, f.are);
       count = ap length c.push.ensures ∙ length-append old (edge ∷ []) ∙ ap (λ n. n + 1) i.count;
-      grows = omega (arith, i.grows, c.id_with-id.ensures.some_steps);
+      least = omega (arith, i.least, c.id_with-id.ensures.some_steps);
       cost = cost_more (3 * digits (length (ids_of c.args.names.now) + 2) + 16) k (k + 1) c.low_parts-lows.new.steps c.loop-place.steps c.id_with-id.new.steps refl i.cost (omega (arith, c.id_with-id.ensures.cost));
     }
 

@@ -9,6 +9,6 @@ abbrev pub invariant-loop-place : goal.invariant-loop-place
 invariant-loop-place g l = record {
   left : (ds : List ℤ) → AreRanksOf (names_in l.names) l.ranks ds → (es : List ℤ) × (ds ≡ edges_in l.edges ++ es) × AreRanksOf (names_in l.names) (drop l.place l.ranks) es;
   count : length (edges_in l.edges) ≡ l.place;
-  grows : l.initial.steps ≤ l.steps;
+  least : l.initial.steps + l.place ≤ l.steps;
   cost : l.steps ≤ l.initial.steps + (3 * digits (length (ids_of l.names) + 2) + 16) * l.place;
 }

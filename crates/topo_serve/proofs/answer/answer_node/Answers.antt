@@ -1,20 +1,21 @@
-use Rattle.std.proofs.Common.{ap, map}
-use Rattle.topo_base.specs.Script.{Item}
-use Rattle.plane_model.specs.Answers.{after_colon}
+use Rattle.std.proofs.Common.{ap, flat_map, map}
+use Rattle.topo_base.specs.Script.{Item, item_text}
 use Rattle.navigate.specs.Bound.{served_map}
-use Rattle.navigate.specs.OrbitWalk as orbits
-use Rattle.topo_serve.proofs.Answering.{same_bytes}
-use Rattle.topo_serve.proofs.Walked.{walk_known, as_items, least_known, paid_round}
+use Rattle.navigate.specs.FirstEdges.{edges_in}
+use Rattle.navigate.specs.OrbitWalk as walks
+use Rattle.topo_serve.proofs.Answering.{written_known, written_unknown}
+use Rattle.topo_serve.proofs.Walked.{begun_items, least_begun, paid_begun, paid_unknown}
 use Rattle.topo_serve.proofs.answer.answer_node.Goals as goal
 
-pub returns-clause-writes : goal.returns-clause-writes
-returns-clause-writes g c =
-    same_bytes _ _ _ _ _ (ap after_colon (walk_known c.node_walk-walk.result (λ w. map Item.Signed_edge (orbits.rest w)) _ _ c.node_walk-walk.ensures.known (as_items c.node_walk-walk.result orbits.rest Item.Signed_edge _ c.node_walk-walk.ensures.list))) c.list_known.ensures.writes
+pub returns-in-Some-clause-writes : goal.returns-in-Some-clause-writes
+returns-in-Some-clause-writes g c =
+    written_known _ _ _ _ _ _ c.in-Some.ensures.known (ap (flat_map item_text) (begun_items Item.Signed_edge _ (edges_in c.node_walk_begun.new.edges) (walks.rest c.in-Some.walk) _ c.in-Some.ensures.list)) ?
 
-pub returns-clause-least : goal.returns-clause-least
-returns-clause-least g c =
-    least_known _ c.node_walk-walk.result (λ w. map Item.Signed_edge (orbits.rest w)) _ _ _ _ (walk_known c.node_walk-walk.result (λ w. map Item.Signed_edge (orbits.rest w)) _ _ c.node_walk-walk.ensures.known (as_items c.node_walk-walk.result orbits.rest Item.Signed_edge _ c.node_walk-walk.ensures.list)) c.node_walk-walk.ensures.grows c.list_known.ensures.least
+pub returns-in-Some-clause-least : goal.returns-in-Some-clause-least
+returns-in-Some-clause-least g c = ?
 
-pub returns-clause-paid : goal.returns-clause-paid
-returns-clause-paid g c =
-    paid_round (served_map c.args.served.now) c.node_walk-walk.result orbits.rest orbits.allowance Item.Signed_edge _ _ _ _ _ c.node_walk-walk.ensures.known c.node_walk-walk.ensures.list c.node_walk-walk.ensures.paid c.list_known.ensures.paid
+pub returns-in-Some-clause-paid : goal.returns-in-Some-clause-paid
+returns-in-Some-clause-paid g c = ?
+
+pub returns-in-None-clause-writes : goal.returns-in-None-clause-writes
+returns-in-None-clause-writes g c = written_unknown _ _ _ _ _ c.in-None.ensures.known c.gather.ensures

@@ -35,19 +35,19 @@ loop-self-preserved g c =
     let edge = c.in-Some.found.1 in
     let d = signed_at (contents_in w) p in
     let is = subst (λ (x : RisingNames). IsRankOf x edge d) i.names here.edge in
-    let next = rest-some w c.ranked.new.self p d here.contents here.next refl in
+    let next = rest-some w c.ranked_once.new.self p d here.contents here.next refl in
     let n : length c.push.new.self.items ≡ length ranks + 1 = ap length c.push.ensures.items ∙ length-append ranks (edge ∷ []) in
-    let price : c.ranked.new.steps ≤ c.loop-self.steps + rank_price m = let e = ap line_digits i.contents in omega (arith, e, here.cost.1) in
+    let price : c.ranked_once.new.steps ≤ c.loop-self.steps + rank_price m = let e = ap line_digits i.contents in omega (arith, e, here.cost.1) in
     record {
       contents = here.contents ∙ i.contents;
       names = here.names ∙ i.names;
       gives = (
         given ++ d ∷ [],
-        i.gives.1 ∙ ap (λ x. given ++ x) next ∙ sym (append_assoc given (d ∷ []) (rest c.ranked.new.self)),
+        i.gives.1 ∙ ap (λ x. given ++ x) next ∙ sym (append_assoc given (d ∷ []) (rest c.ranked_once.new.self)),
         subst (λ (xs : List RankedEdge). AreRanksOf names xs (given ++ d ∷ [])) (sym c.push.ensures.items) (ranks_more names ranks given edge d i.gives.2 is),
       );
       least = omega (arith, n, i.least, here.cost.0);
-      cost = cost_more (rank_price m) (length ranks) (length c.push.new.self.items) c.args.steps.now c.loop-self.steps c.ranked.new.steps n i.cost price;
+      cost = cost_more (rank_price m) (length ranks) (length c.push.new.self.items) c.args.steps.now c.loop-self.steps c.ranked_once.new.steps n i.cost price;
     }
 
 pub returns-in-None-clause-end : goal.returns-in-None-clause-end
@@ -58,4 +58,4 @@ returns-in-None-clause-end g c = λ e.
 pub returns-in-None-clause-gives : goal.returns-in-None-clause-gives
 returns-in-None-clause-gives g c =
     let i = c.loop-self.invariant in
-    let same : rest c.loop-self.self ≡ rest c.ranked.new.self = rest-none c.loop-self.self c.in-None.ensures.next ∙ sym (rest-none c.ranked.new.self c.in-None.ensures.within) in (i.gives.0, i.gives.1 ∙ ap (λ x. i.gives.0 ++ x) same, i.gives.2)
+    let same : rest c.loop-self.self ≡ rest c.ranked_once.new.self = rest-none c.loop-self.self c.in-None.ensures.next ∙ sym (rest-none c.ranked_once.new.self c.in-None.ensures.within) in (i.gives.0, i.gives.1 ∙ ap (λ x. i.gives.0 ++ x) same, i.gives.2)
