@@ -117,14 +117,14 @@ pub(crate) fn edges_from_smallest<'a, C: Ledger>(
     let mut before = 0;
     ranks.push(best.1);
     while !ranks.is_full() {
-        let Some(found) = walk.ranked_once(steps) else {
+        let Some(next) = walk.ranked_once(steps) else {
             put_down_turned(names, ranks.as_slice(), before, edges, steps);
             return walk;
         };
         let count = ranks.len();
-        ranks.push(found.1);
-        if found.1.is_less(best.1) {
-            best = found;
+        ranks.push(next.1);
+        if next.1.is_less(best.1) {
+            best = next;
             before = count;
         }
     }

@@ -66,7 +66,7 @@ pub loop-names-preserved-then-is_less : goal.loop-names-preserved-then-is_less
 loop-names-preserved-then-is_less g c =
     let m = contents_of_view c.args.served in
     let i = c.loop-names.invariant in
-    let found = c.in-Some-ranked_once.found in
+    let found = c.in-Some-ranked_once.next in
     let q = found.0 in
     let here = c.in-Some-ranked_once.ensures in
     let left = positions_left c.loop-names.walk in
@@ -105,7 +105,7 @@ pub loop-names-preserved : goal.loop-names-preserved
 loop-names-preserved g c =
     let m = contents_of_view c.args.served in
     let i = c.loop-names.invariant in
-    let found = c.in-Some-ranked_once.found in
+    let found = c.in-Some-ranked_once.next in
     let q = found.0 in
     let here = c.in-Some-ranked_once.ensures in
     let left = positions_left c.loop-names.walk in
