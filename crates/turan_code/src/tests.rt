@@ -136,19 +136,6 @@ fn is_stop<C: Ledger>(view: TuranView<'_>, kind: bool, p: usize, steps: &mut Ste
         && view.after(stop.over, &mut near, steps) == next
 }
 
-/// Whether the stop of a ring at position `p` says what is said of it by itself.
-fn is_ring_stop<C: Ledger>(view: TuranView<'_>, p: usize, steps: &mut Steps<C>) -> bool
-    requires { p < length (code_of_view view).a }
-{
-    let mut near = p;
-    let stop = view.ring_stop(p, &mut near, steps);
-    stop.edge == view.edge_of(p, steps)
-        && stop.is_first == view.is_first(p, steps)
-        && stop.across == view.ring_across(p, p, steps)
-        && stop.next == view.next(p, steps)
-        && near == view.component_of(p, steps) as usize
-}
-
 /// The first wrong position of a view, among each `stride`th and the last ones of the components.
 fn wrong_position<C: Ledger>(
     view: TuranView<'_>,
@@ -168,8 +155,7 @@ fn wrong_position<C: Ledger>(
                 || !undone(view, p, steps)
                 || !is_crossed(view, p, steps)
                 || !is_stop(view, true, p, steps)
-                || !is_stop(view, false, p, steps)
-                || !is_ring_stop(view, p, steps))
+                || !is_stop(view, false, p, steps))
         {
             return Some(p);
         }
