@@ -91,7 +91,7 @@ fn append_bit(words: &mut Vec<u64>, from: usize, bit: u64) -> Result<(), Memory>
 
 #[tactic(auto, using(crate::proofs::Streams::packed))]
 impl PackedMaker {
-    ghost use Rattle.std.specs.Prelude.{ℕ, ◌≡◌, ◌==◌, ◌<◌, ◌≤◌, ◌+◌, ◌*◌, ◌^◌, [], ◌∷◌, ◌++◌, length, map, slice_index_or, false, OnOk, OnErr};
+    ghost use Rattle.std.specs.Prelude.{ℕ, ◌≡◌, ◌==◌, ◌<◌, ◌≤◌, ◌+◌, ◌*◌, ◌^◌, [], ◌∷◌, ◌++◌, length, map, slice_index_or, false, IfOk, OnOk, OnErr};
     ghost use Rattle.bit_words.specs.Packed.{Packs};
     ghost use Rattle.bit_words.specs.Bits.{fields_in, is_set};
 
@@ -108,9 +108,25 @@ impl PackedMaker {
         }
     }
 
+    /// The same with room for so many, so that none of these moves the others.
+    pub fn with_room(alloc: Global, width: u32, count: usize) -> Result<PackedMaker, Memory>
+        requires some { 1 ≤ width }
+        requires narrow { width ≤ 64 }
+        ensures { IfOk result (λ maker. maker ≡ record { width = width; items = [] }) }
+    {
+        match Vec::with_capacity(alloc, count.saturating_mul(width as usize).div_ceil(64)) {
+            Ok(words) => Ok(PackedMaker {
+                words,
+                count: 0,
+                width,
+            }),
+            Err(_) => Err(Memory),
+        }
+    }
+
     /// How many numbers there are.
     #[inline]
-    pub(crate) fn count(&self) -> usize
+    pub fn count(&self) -> usize
         ensures { result ≡ length self.now.items }
     {
         self.count

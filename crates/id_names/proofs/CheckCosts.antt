@@ -12,14 +12,14 @@ two_digits c =
     let b = digits-half 1 (omega arith) in
     omega (arith, digits-mono 2 (c + 2) (omega arith), a, b)
 
-rows_few : (c l : ℕ) → 2 ≤ l → c * (9 * l + 31) ≤ 28 * (l * (c + 1))
+rows_few : (c l : ℕ) → 2 ≤ l → c * (9 * l + 36) ≤ 28 * (l * (c + 1))
 rows_few c l h =
-    let few : 9 * l + 31 ≤ 28 * l = omega arith in
-    let rows : c * (9 * l + 31) ≤ c * (28 * l) = mul-le-mul_left c few in
+    let few : 9 * l + 36 ≤ 28 * l = omega arith in
+    let rows : c * (9 * l + 36) ≤ c * (28 * l) = mul-le-mul_left c few in
     omega arith
 
 -- all that a check reads
-pub all_few : (c bits : ℕ) → bits ≡ c + 2 ^ digits c → bits + 8 + 9 + (bits + 2 * c) + (c + 8) + 9 + c * (9 * digits (c + 2) + 31) ≤ 64 * (digits (c + 2) * (c + 1))
+pub all_few : (c bits : ℕ) → bits ≡ c + 2 ^ digits c → bits + 8 + 9 + (bits + 2 * c) + (c + 8) + 9 + c * (9 * digits (c + 2) + 36) ≤ 64 * (digits (c + 2) * (c + 1))
 all_few c bits e =
     let l = digits (c + 2) in
     let two : 2 ≤ l = two_digits c in

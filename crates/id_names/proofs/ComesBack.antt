@@ -12,7 +12,7 @@ use Rattle.id_names.specs.Cycles.{IsPlacePermutation, cycle, least_member, mark_
 use Rattle.id_names.specs.Inverse.{stride, walk, back_from, number_at}
 use Rattle.id_names.specs.Making.{spacing}
 use Rattle.id_names.proofs.Members.{members_of}
-use Rattle.id_names.proofs.Pointers.{spacing_some, length-marks, mark_is, value_at}
+use Rattle.id_names.proofs.Pointers.{spacing_some, spacing_near, length-marks, mark_is, value_at}
 use Rattle.id_names.proofs.Sweeping.{mark_of_member, own, back, on_same}
 use Rattle.id_names.proofs.Walks.{walk_here, walk_jumps, walk_follows, walk_longer}
 
@@ -256,17 +256,38 @@ module _ (places : List ℕ) (are : IsPlacePermutation places) (first : ℕ) (wi
         | inr over ↦ (let e : i + 1 ≡ length xs = omega arith in from_place 0 (m.ends i e ∙ sym m.begins) (inr (refl, e)) near)
       ]
 
--- and so it does from the place of each number
-pub comes_back : (places : List ℕ) → IsPlacePermutation places → (k : ℕ) → k < length places → number_at places (marked places (spacing (length places))) (back_pointers places (spacing (length places))) (get_or places k 0) ≡ Some k
-comes_back places are k h =
-    let s = spacing (length places) in
+-- where a number stands in its cycle, which begins at its least member
+pub record OwnPlace (places : List ℕ) (k : ℕ) : Type 0 where
+  pub first : ℕ
+  pub at : ℕ
+  pub within : first < length places
+  pub least : (y : ℕ) → has (λ x y. x == y) (cycle places first) y ≡ true → first ≤ y
+  pub inside : at < length (cycle places first)
+  pub is : get_or (cycle places first) at 0 ≡ k
+
+pub own_place : (places : List ℕ) → IsPlacePermutation places → (k : ℕ) → k < length places → OwnPlace places k
+own_place places are k h =
+    let s : ℕ = 1 in
     let first = least_member places k in
     let within : first < length places = omega (arith, least_most k (cycle places k)) in
     let on_first : has (λ x y. x == y) (cycle places k) first ≡ true = elim (least_in k (cycle places k)) [
       | inl is ↦ subst (λ z. has (λ x y. x == y) (cycle places k) z ≡ true) (sym is) (own places are s k h)
       | inr on ↦ on
     ] in
-    let least : (y : ℕ) → has (λ x y. x == y) (cycle places first) y ≡ true → first ≤ y = λ y on. least_lower k (cycle places k) y (on_same places are s k first y h on_first on) in
     let at = place_in (cycle places first) k (back places are s k first h on_first) in
-    subst (λ x. number_at places (marked places s) (back_pointers places s) (get_or places x 0) ≡ Some x) at.2
-    (member_found places are first within least s (spacing_some (length places)) at.0 at.1 (omega arith))
+    record {
+      first = first;
+      at = at.0;
+      within = within;
+      least = λ y on. least_lower k (cycle places k) y (on_same places are s k first y h on_first on);
+      inside = at.1;
+      is = at.2;
+    }
+
+-- and so it does from the place of each number
+pub comes_back : (places : List ℕ) → IsPlacePermutation places → (k : ℕ) → k < length places → number_at places (marked places (spacing (length places))) (back_pointers places (spacing (length places))) (get_or places k 0) ≡ Some k
+comes_back places are k h =
+    let s = spacing (length places) in
+    let o = own_place places are k h in
+    subst (λ x. number_at places (marked places s) (back_pointers places s) (get_or places x 0) ≡ Some x) o.is
+    (member_found places are o.first o.within o.least s (spacing_some (length places)) o.at o.inside (spacing_near (length places)))

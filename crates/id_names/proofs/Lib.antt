@@ -15,12 +15,14 @@ pub mod Many
 pub mod Following
 pub mod FoundAlong
 pub mod OnWays
+pub mod PointBack
 pub mod Waiting
 pub mod HighBits
 pub mod HighLaws
 pub mod Held
 pub mod Pointers
 pub mod ComesBack
+pub mod ToAll
 pub mod FaultOrder
 pub mod CheckCosts
 pub mod NameLaws

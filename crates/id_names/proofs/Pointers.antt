@@ -20,14 +20,17 @@ use Rattle.id_names.proofs.DigitBounds.{below_power}
 use Rattle.id_names.proofs.Members.{members_of}
 
 -- marks stand apart, and the width of a place
-stride_some : (c : ℕ) → 1 ≤ stride c
+pub stride_some : (c : ℕ) → 1 ≤ stride c
 stride_some c = elim (cases_lt 0 (digits (c + 2))) [
   | inl some ↦ some
   | inr none ↦ (let z : digits (c + 2) ≡ 0 = omega arith in let e : 2 ^ digits (c + 2) ≡ 1 = ap (λ d. 2 ^ d) z in absurd (omega (arith, below_power (c + 2))))
 ]
 
 pub spacing_some : (c : ℕ) → 1 ≤ spacing c
-spacing_some c = omega (arith, stride_some c)
+spacing_some c = elim (cases_Bool (nat_lt 4 (stride c))) [ inl far ↦ rw far (omega arith) | inr near ↦ rw near (stride_some c) ]
+
+pub spacing_near : (c : ℕ) → spacing c ≤ stride c
+spacing_near c = elim (cases_Bool (nat_lt 4 (stride c))) [ inl far ↦ rw far (stride_some c) | inr near ↦ rw near (omega arith) ]
 
 pub width_narrow : (c : ℕ) → c ≤ 16777216 → place_width c ≤ 31
 width_narrow c h = let d = digits-pow c 25 (omega arith) in omega arith

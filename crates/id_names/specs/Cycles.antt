@@ -49,6 +49,10 @@ marked places stride = map is_some (marks_of places stride)
 abbrev pub back_pointers : List ℕ → ℕ → List ℕ
 back_pointers places stride = filter_map (λ mark. mark) (marks_of places stride)
 
+-- the pointer of a number where each member of a cycle of several is marked, by the numbers by place: the one before it
+abbrev pub one_before : List ℕ → ℕ → Option ℕ
+one_before numbers k = if slice_index numbers k == k then None else Some (slice_index numbers k)
+
 -- the members of a cycle are visited, and what was visited before
 pub record AreVisited (members : List ℕ) (old new : List Bool) : Type 0 where
   pub size : length new ≡ length old

@@ -1,5 +1,5 @@
 -- The parts that are made of ids, each as a list.
-use Rattle.std.specs.Prelude.{ℕ, min, ◌%◌, ◌/◌, ◌^◌, ◌≡◌, ◌==◌, Bool, true, false, nat_lt, List, [], ◌∷◌, ◌++◌, map, length, count_by, find, flat_map, replicate, unwrap_or, max}
+use Rattle.std.specs.Prelude.{ℕ, if◌then◌else◌, ◌%◌, ◌/◌, ◌^◌, ◌≡◌, ◌==◌, Bool, true, false, nat_lt, List, [], ◌∷◌, ◌++◌, map, length, count_by, find, flat_map, replicate, unwrap_or, max}
 use Rattle.std.specs.List.{range_with_len}
 use Rattle.bit_words.specs.Bits.{fields_in}
 use Rattle.bit_words.specs.Digits.{digits}
@@ -37,10 +37,10 @@ high_bits low ids = flat_map (bucket low ids) (range_with_len 0 (2 ^ digits (len
 abbrev pub place_width : ℕ → ℕ
 place_width c = max 1 (digits c)
 
--- How far marks stand from one another in what is made of c ids: as far as walks may go, but 4 members at most, so that
--- a walk makes 5 tests at most.
+-- How far marks stand from one another in what is made of c ids: as far as walks may go where that is 4 members at most,
+-- and else each member of a cycle of several is marked, so that a walk makes 2 tests at most.
 abbrev pub spacing : ℕ → ℕ
-spacing c = min 4 (stride c)
+spacing c = if nat_lt 4 (stride c) then 1 else stride c
 
 -- the parts that are made of these ids
 abbrev pub made : ℕ → List ℕ → RisingNames

@@ -1,5 +1,5 @@
 -- Ways along the places from a marked number to the next marked one, cycles without a mark, and what lies on them.
-use Rattle.std.specs.Prelude.{ℕ, ◌≡◌, ◌+◌, ◌<◌, ◌≤◌, Bool, true, false, List, length, slice_index, slice_index_or}
+use Rattle.std.specs.Prelude.{ℕ, ◌≡◌, ◌+◌, ◌<◌, ◌≤◌, Bool, true, false, if◌then◌else◌, List, length, slice_index, slice_index_or}
 use Rattle.std.specs.Option.{is_some}
 use Rattle.orbits.specs.Walks.{stepped}
 use Rattle.id_names.specs.Inverse.{stride, back_from, number_at}
@@ -61,6 +61,10 @@ pub record IsOnCycle (places : List ℕ) (marks : List Bool) (back : List ℕ) (
   pub far : ℕ
   pub least : (k : ℕ) → after places far place ≤ after places k place
   pub before : after places far place < bound
+
+-- the number that a place points back to, and its own where it has no mark
+abbrev pub pointed_from : List Bool → List ℕ → ℕ → ℕ
+pointed_from marks back place = if slice_index_or marks place false then back_from marks back place else place
 
 -- So many numbers are of a kind.
 pub record AreMany (Kind : ℕ → Type 0) (count : ℕ) : Type 0 where

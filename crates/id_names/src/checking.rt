@@ -66,7 +66,7 @@ fn first_not_found<C: Ledger>(inverse: Inverse<'_>, steps: &mut Steps<C>) -> Opt
         (length (fields_of inverse.entry.places)) }
     ensures grows { steps.old ≤ steps.new }
     ensures cost { steps.new ≤ steps.old + length (fields_of inverse.entry.places)
-        * (9 * digits (length (fields_of inverse.entry.places) + 2) + 31) }
+        * (9 * digits (length (fields_of inverse.entry.places) + 2) + 36) }
 {
     if all_found(inverse, steps) {
         return None;

@@ -1,7 +1,7 @@
 //! The cycles of a permutation: in long ones every so many members are marked, with a pointer back.
 
 ghost use Rattle.std.specs.Prelude.{◌≡◌, ℕ, ◌<◌, ◌≤◌, IfOk, None, false, length, slice_index, slice_index_or};
-ghost use Rattle.id_names.specs.Cycles.{AreInverse, IsPlacePermutation, HavePointers, AreVisited, cycle, marks_of};
+ghost use Rattle.id_names.specs.Cycles.{one_before, AreInverse, IsPlacePermutation, HavePointers, AreVisited, cycle, marks_of};
 
 use std::alloc::{AllocError, Global};
 
@@ -121,4 +121,18 @@ pub(crate) fn cycle_marks(
         }
     }
     Ok(marks)
+}
+
+/// The number before another in its cycle, or None where that is the same.
+pub(crate) fn one_before(numbers: &[u32], number: usize) -> Option<u32>
+    requires few { length numbers.now ≤ 16777216 }
+    requires within { number < length numbers.now }
+    ensures { result ≡ one_before numbers.now number }
+{
+    let before = numbers[number];
+    if before as usize == number {
+        None
+    } else {
+        Some(before)
+    }
 }

@@ -5,6 +5,7 @@
 //! on long cycles and a pointer back from each, so that few places are read.
 #![tactic(auto)]
 
+mod at_once;
 mod checking;
 mod cycles;
 mod fault;

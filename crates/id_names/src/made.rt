@@ -31,8 +31,9 @@ pub fn made_by_hand()
     ensures places { places_of (2 ∷ 1 ∷ 3 ∷ []) ≡ 1 ∷ 0 ∷ 2 ∷ [] }
     ensures rising { rising (2 ∷ 1 ∷ 3 ∷ []) ≡ 1 ∷ 2 ∷ 3 ∷ [] }
     ensures high { high_bits 1 (5 ∷ 2 ∷ 3 ∷ []) ≡ false ∷ true ∷ true ∷ false ∷ true ∷ false ∷ false ∷ [] }
-    ensures spacing { map spacing (1 ∷ 4 ∷ 6 ∷ 100 ∷ []) ≡ 2 ∷ 3 ∷ 4 ∷ 4 ∷ [] }
+    ensures spacing { map spacing (1 ∷ 4 ∷ 6 ∷ 13 ∷ 14 ∷ 100 ∷ []) ≡ 2 ∷ 3 ∷ 4 ∷ 4 ∷ 1 ∷ 1 ∷ [] }
     ensures marks { marks_of (1 ∷ 2 ∷ 3 ∷ 4 ∷ 0 ∷ []) 2 ≡ Some 4 ∷ None ∷ Some 0 ∷ None ∷ Some 2 ∷ [] }
+    ensures all { marks_of (1 ∷ 2 ∷ 0 ∷ 3 ∷ []) 1 ≡ Some 2 ∷ Some 0 ∷ Some 1 ∷ None ∷ [] }
     ensures short { marks_of (1 ∷ 0 ∷ 3 ∷ 2 ∷ []) 2 ≡ None ∷ None ∷ None ∷ None ∷ [] }
     ensures back { back_pointers (1 ∷ 2 ∷ 3 ∷ 4 ∷ 0 ∷ []) 2 ≡ 4 ∷ 0 ∷ 2 ∷ [] }
 {}

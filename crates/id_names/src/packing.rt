@@ -14,7 +14,7 @@ pub(crate) fn packed(alloc: Global, width: u32, numbers: &[u32]) -> Result<Packe
     requires fit { All (λ number. number < 2 ^ width) numbers.now }
     ensures { IfOk result (λ maker. maker ≡ record { width = width; items = numbers.now }) }
 {
-    let mut maker = PackedMaker::new(alloc, width);
+    let mut maker = PackedMaker::with_room(alloc, width, numbers.len())?;
     for number in numbers {
         maker.push(u64::from(*number))?;
     }

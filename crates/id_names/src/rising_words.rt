@@ -74,7 +74,7 @@ fn lows(alloc: Global, entries: &[Named], low: u32) -> Result<PackedMaker, Memor
     requires narrow { low < 64 }
     ensures { IfOk result (λ lows. lows ≡ record { width = low; items = map (λ n. n.id % 2 ^ low) entries.now }) }
 {
-    let mut lows = PackedMaker::new(alloc, low);
+    let mut lows = PackedMaker::with_room(alloc, low, entries.len())?;
     for entry in entries {
         lows.push(entry.id % (1 << low))?;
     }

@@ -30,7 +30,7 @@ struct Search {
 }
 
 impl Search {
-    ghost use Rattle.std.specs.Prelude.{ℕ, ◌≡◌, ◌≤◌, ◌+◌, length};
+    ghost use Rattle.std.specs.Prelude.{ℕ, ◌≡◌, ◌≤◌, ◌+◌, length, true};
     ghost use Rattle.bit_words.specs.PackedView.{fields_of};
     ghost use Rattle.id_names.specs.Inverse.{stride};
     ghost use Rattle.id_names.specs.Searches.{number_for, found_within, jump_left};
@@ -86,6 +86,18 @@ impl Search {
         self.number = next;
     }
 
+    /// Whether it has ended, so that no step changes it.
+    #[inline]
+    fn has_ended(&self) -> bool
+        ensures { result ≡ true → (inverse : Inverse) → (tests : ℕ) → found_within inverse tests self.now
+            ≡ found_within inverse 0 self.now }
+    {
+        match self.state {
+            State::UnderWay => false,
+            State::Found | State::Missing => true,
+        }
+    }
+
     /// What it has found, where no step is left to take.
     fn found(&self) -> Option<usize>
         ensures { (inverse : Inverse) → result ≡ found_within inverse 0 self.now }
@@ -107,7 +119,7 @@ struct Searches {
 }
 
 impl Searches {
-    ghost use Rattle.std.specs.Prelude.{ℕ, ◌≡◌, ◌≤◌, ◌+◌, map, length};
+    ghost use Rattle.std.specs.Prelude.{ℕ, ◌≡◌, ◌≤◌, ◌+◌, map, length, true};
     ghost use Rattle.bit_words.specs.PackedView.{fields_of};
     ghost use Rattle.id_names.specs.Inverse.{stride};
     ghost use Rattle.id_names.specs.Searches.{number_for, each_within, jumps_left};
@@ -140,6 +152,18 @@ impl Searches {
         self.fourth.step(inverse, steps);
     }
 
+    /// Whether all have ended.
+    #[inline]
+    fn have_ended(&self) -> bool
+        ensures { result ≡ true → (inverse : Inverse) → (tests : ℕ) → each_within inverse tests self.now
+            ≡ each_within inverse 0 self.now }
+    {
+        self.first.has_ended()
+            && self.second.has_ended()
+            && self.third.has_ended()
+            && self.fourth.has_ended()
+    }
+
     /// What they have found, where no step is left to take.
     fn found(&self) -> [Option<usize>; 4]
         ensures { (inverse : Inverse) → result ≡ each_within inverse 0 self.now }
@@ -165,6 +189,9 @@ fn follow_four<C: Ledger>(
 {
     let mut searches = Searches::begun(places);
     for _ in 0..binary_digits(inverse.places.count() + 2) + 1 {
+        if searches.have_ended() {
+            break;
+        }
         searches.step(inverse, steps);
     }
     searches.found()

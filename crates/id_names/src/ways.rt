@@ -14,6 +14,7 @@ ghost use Rattle.id_names.specs.Inverse.{back_from};
 ghost use Rattle.id_names.specs.PartViews.{number_in};
 ghost use Rattle.id_names.specs.Ways.{IsWay, IsShortCycle, IsOnWay, IsOnCycle, AreMany};
 
+use crate::at_once::all_point_back;
 use crate::inverse::{Inverse, binary_digits};
 use crate::range_counts::RangeCounts;
 use bit_words::Steps;
@@ -276,15 +277,18 @@ fn on_cycles<C: Ledger>(
     Some(count)
 }
 
-/// Whether the counts show that the walk from the place of each number comes to it. They are meant to for all that
-/// `make` makes, which no contract says: where they don't, the walks themselves decide.
+/// Whether the walk from the place of each number is seen to come to it, from the pointers alone or by counts. It is
+/// meant to for all that `make` makes, which no contract says: where it isn't, the walks themselves decide.
 pub(crate) fn all_found<C: Ledger>(inverse: Inverse<'_>, steps: &mut Steps<C>) -> bool
     ensures all { result ≡ true → first_failing (is_ordered (fields_of inverse.entry.places) (number_in inverse.entry))
         (length (fields_of inverse.entry.places)) ≡ None }
     ensures grows { steps.old ≤ steps.new }
     ensures cost { steps.new ≤ steps.old + length (fields_of inverse.entry.places)
-        * (6 * digits (length (fields_of inverse.entry.places) + 2) + 15) }
+        * (6 * digits (length (fields_of inverse.entry.places) + 2) + 20) }
 {
+    if all_point_back(inverse, steps) {
+        return true;
+    }
     let mut seen = RangeCounts::over(inverse.places.count());
     let Some(ways) = on_ways(inverse, &mut seen, steps) else {
         return false;

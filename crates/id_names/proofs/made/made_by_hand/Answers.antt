@@ -26,6 +26,10 @@ pub returns-clause-marks : goal.returns-clause-marks
 unfolding tabulate mark_of mark_at walks.until_return
 returns-clause-marks c = refl
 
+pub returns-clause-all : goal.returns-clause-all
+unfolding tabulate mark_of mark_at walks.until_return
+returns-clause-all c = refl
+
 pub returns-clause-short : goal.returns-clause-short
 unfolding tabulate mark_of mark_at walks.until_return
 returns-clause-short c = refl

@@ -1,9 +1,10 @@
-use Rattle.std.proofs.Common.{◌≡◌, ◌+◌, ◌-◌, map, length, ◌∙◌, ap, subst, arith}
+use Rattle.std.proofs.Common.{◌≡◌, ◌+◌, ◌-◌, map, length, ◌∙◌, ap, subst, sym, arith}
 use Rattle.bit_words.specs.Digits.{digits}
 use Rattle.bit_words.specs.PackedView.{fields_of}
 use Rattle.id_names.specs.Inverse.{stride}
 use Rattle.id_names.specs.Searches.{number_for, each_within}
 use Rattle.id_names.proofs.searches.follow_four.Goals as goal
+use Rattle.id_names.proofs.searches.follow_four.Goals.{else-loop-test, then-loop-test+then-have_ended}
 
 pub loop-init : goal.loop-init
 loop-init g c =
@@ -31,5 +32,9 @@ pub returns-clause-numbers : goal.returns-clause-numbers
 returns-clause-numbers g c =
     let v = c.args.inverse.now in
     let l = c.loop in
-    let none : c.binary_digits-end.result + 1 - l.counter ≡ 0 = omega (arith, c.loop-test.false) in
-    c.found.ensures v ∙ subst (λ n. each_within v n l.searches ≡ map (number_for v) c.args.places) none l.invariant.left
+    c.found.ensures v ∙ elim c.loop-test.branch [
+      | else-loop-test w ↦
+          let none : c.binary_digits-end.result + 1 - l.counter ≡ 0 = omega (arith, w.loop-test.false) in
+          subst (λ n. each_within v n l.searches ≡ map (number_for v) c.args.places) none l.invariant.left
+      | then-loop-test+then-have_ended w ↦ sym (w.have_ended.ensures w.if-have_ended.true v (c.binary_digits-end.result + 1 - l.counter)) ∙ l.invariant.left
+    ]
