@@ -12,7 +12,7 @@ use Rattle.id_names.specs.Cycles.{IsPlacePermutation, cycle, least_member, mark_
 use Rattle.id_names.specs.Inverse.{stride, walk, back_from, number_at}
 use Rattle.id_names.specs.Making.{spacing}
 use Rattle.id_names.proofs.Members.{members_of}
-use Rattle.id_names.proofs.Pointers.{spacing_some, spacing_near, length-marks, mark_is, value_at}
+use Rattle.id_names.proofs.Pointers.{least_below, spacing_some, spacing_near, length-marks, mark_is, value_at}
 use Rattle.id_names.proofs.Sweeping.{mark_of_member, own, back, on_same}
 use Rattle.id_names.proofs.Walks.{walk_here, walk_jumps, walk_follows, walk_longer}
 
@@ -27,14 +27,10 @@ least_in a (x ∷ xs) = elim (least_in (min a x) xs) [
   | inr on ↦ elim (cases_Bool (fold min (min a x) xs == x)) [ inl e ↦ inr (rw e refl) | inr e ↦ inr (rw e on) ]
 ]
 
-least_most : (a : ℕ) (xs : List ℕ) → fold min a xs ≤ a
-least_most a [] = omega arith
-least_most a (x ∷ xs) = let more = least_most (min a x) xs in omega arith
-
 least_lower : (a : ℕ) (xs : List ℕ) (y : ℕ) → has (λ x y. x == y) xs y ≡ true → fold min a xs ≤ y
 least_lower a [] y on = absurd (both_ways false refl on)
 least_lower a (x ∷ xs) y on = elim (or_cases (y == x) (has (λ x y. x == y) xs y) on) [
-  | inl is ↦ (let e = eqb-true y x is in let m = least_most (min a x) xs in omega arith)
+  | inl is ↦ (let e = eqb-true y x is in let m = least_below (min a x) xs in omega arith)
   | inr more ↦ least_lower (min a x) xs y more
 ]
 
@@ -269,7 +265,7 @@ pub own_place : (places : List ℕ) → IsPlacePermutation places → (k : ℕ) 
 own_place places are k h =
     let s : ℕ = 1 in
     let first = least_member places k in
-    let within : first < length places = omega (arith, least_most k (cycle places k)) in
+    let within : first < length places = omega (arith, least_below k (cycle places k)) in
     let on_first : has (λ x y. x == y) (cycle places k) first ≡ true = elim (least_in k (cycle places k)) [
       | inl is ↦ subst (λ z. has (λ x y. x == y) (cycle places k) z ≡ true) (sym is) (own places are s k h)
       | inr on ↦ on

@@ -79,7 +79,7 @@ value_at (Some y ∷ os) (suc k) x h e =
     ap (λ n. get_or (y ∷ filter_map (λ o. o) os) n 0) c ∙ value_at os k x (omega arith) e
 
 -- the least of some numbers is at most the first
-least_below : (a : ℕ) (xs : List ℕ) → fold min a xs ≤ a
+pub least_below : (a : ℕ) (xs : List ℕ) → fold min a xs ≤ a
 least_below a [] = omega arith
 least_below a (x ∷ xs) = let more = least_below (min a x) xs in omega arith
 
