@@ -70,7 +70,7 @@ fn fault_cut(alloc: Global, len: usize) -> Result<Option<FileFault>, Fail> {
     Ok(fault(alloc, &bytes))
 }
 
-/// What a file says of itself, and of its first component, edge and isolated node, 0 where it has none.
+/// What a file says of itself, and of its first component, edge and isolated node, 0 where it has none, and of places.
 #[derive(Clone, Copy, Debug, PartialEq, Eq)]
 struct Seen {
     positions: usize,
@@ -79,6 +79,10 @@ struct Seen {
     component: u32,
     forward: bool,
     isolated: u32,
+    /// Between which components those below place 1 end.
+    components_around: (usize, usize),
+    /// Between which isolated nodes those below place 2 end.
+    isolated_around: (usize, usize),
 }
 
 /// The first of some components, in their order by place and by their own number.
@@ -114,6 +118,8 @@ fn examined<C: Ledger>(served: Served<'_>, steps: &mut Steps<C>) -> Seen {
         component,
         forward: first_forward(served, steps),
         isolated: first_isolated(served, steps),
+        components_around: served.components_around(1),
+        isolated_around: served.isolated_around(2),
     }
 }
 
@@ -146,6 +152,8 @@ fn the_file_of_a_triangle_is_opened(rt: HostRuntime) -> Result<(), Fail> {
         component: 0,
         forward: false,
         isolated: 0,
+        components_around: (1, 1),
+        isolated_around: (0, 0),
     };
     for image in [
         bytes_of(alloc, &old_triangle())?,
@@ -178,6 +186,8 @@ fn the_file_of_an_island_is_opened(rt: HostRuntime) -> Result<(), Fail> {
         component: 0,
         forward: false,
         isolated: 2,
+        components_around: (1, 2),
+        isolated_around: (0, 1),
     };
     assert_eq!(rt;
         examined_counted::<Brand>(alloc, &image, Blank::new(1)),

@@ -37,11 +37,12 @@ use Rattle.file_laws.proofs.Agreement.{agrees}
 use Rattle.file_laws.specs.Agreement.{Agrees}
 use Rattle.navigate.specs.Bound.{map_with}
 use Rattle.navigate.specs.Least.{smallest_of}
-use Rattle.navigate.specs.Holes.{place_at, components_between, outer_positions}
+use Rattle.pemb_file.specs.Milestones.{place_at}
+use Rattle.navigate.specs.Holes.{components_between, outer_positions}
 use Rattle.navigate.proofs.Facts.{w, place_next}
 use Rattle.navigate.proofs.MapLists.{least-smallest, side_at}
 use Rattle.navigate.proofs.NodePlaces.{start_ring, start_face}
-use Rattle.navigate.proofs.PlaceLaws.{many, component_at, edges_rise}
+use Rattle.pemb_file.proofs.PlaceLaws.{many, component_at, edges_rise}
 use Rattle.navigate.proofs.FaceLaws.{between-next, between-none, outer-none, outer-some}
 
 -- the entries of an order by a range

@@ -29,7 +29,7 @@ use Rattle.file_laws.proofs.Rotation.{face_of, node_key, node_keys_from}
 use Rattle.navigate.proofs.Facts.{w}
 use Rattle.navigate.proofs.OrbitLengths.{some_digits}
 use Rattle.navigate.proofs.PriceLaws.{items_fit}
-use Rattle.navigate.proofs.PlaceLaws.{ids_rise}
+use Rattle.pemb_file.proofs.PlaceLaws.{ids_rise}
 use Rattle.navigate.proofs.HoleLaws.{AreAt, in_order, one_place, holes_at}
 use Rattle.navigate.proofs.FaceLaws.{between-next, between-none}
 

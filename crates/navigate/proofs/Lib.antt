@@ -10,7 +10,6 @@ pub mod Facts
 pub mod MapLists
 pub mod Rings
 pub mod NodePlaces
-pub mod PlaceLaws
 pub mod FaceLaws
 pub mod HoleLaws
 pub mod ShellLaws

@@ -19,7 +19,7 @@ use Rattle.navigate.specs.FaceWalk.{contents_in, face_positions}
 use Rattle.navigate.specs.declared.orbit_walk.OrbitWalk.{OrbitWalk}
 use Rattle.navigate.specs.declared.face_rings.FaceWalk.{FaceWalk}
 use Rattle.navigate.proofs.Facts.{w}
-use Rattle.navigate.proofs.PlaceLaws.{component_at}
+use Rattle.pemb_file.proofs.PlaceLaws.{component_at}
 use Rattle.navigate.proofs.FaceLaws.{between-next, between-none, outer-none, outer-some, face-left}
 
 none-has : (x k : ℕ) → has [] x ≡ true → x < k

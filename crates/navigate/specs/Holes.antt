@@ -4,10 +4,6 @@ use Rattle.code_laws.specs.Code.{start_of}
 use Rattle.code_laws.specs.Orbits.{orbit}
 use Rattle.file_laws.specs.Contents.{Contents}
 
--- where the component lies that is entry i of the order
-abbrev pub place_at : Contents → ℕ → ℕ
-place_at c i = slice_index c.places (slice_index c.place_order i)
-
 -- the components at a place, in the order of the file
 abbrev pub components_at : Contents → ℕ → List ℕ
 components_at c place = filter (λ j. slice_index c.places j == place) c.place_order

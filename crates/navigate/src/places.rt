@@ -5,7 +5,7 @@ ghost use Rattle.bit_words.specs.Digits.{digits};
 ghost use Rattle.code_laws.specs.Code.{start_of};
 ghost use Rattle.file_laws.specs.Contents.{component_count};
 ghost use Rattle.pemb_file.specs.Served.{contents_of_view};
-ghost use Rattle.navigate.specs.Holes.{place_at};
+ghost use Rattle.pemb_file.specs.Milestones.{place_at};
 
 use bit_words::Steps;
 use pemb_file::Served;
@@ -20,8 +20,7 @@ pub fn components_below<C: Ledger>(served: Served<'_>, place: usize, steps: &mut
     ensures grows { steps.old ≤ steps.new }
     ensures cost { steps.new ≤ steps.old + 2 * digits (component_count (contents_of_view served.entry)) }
 {
-    let mut low = 0;
-    let mut high = served.counts().components as usize;
+    let (mut low, mut high) = served.components_around(place);
     while low < high {
         let middle = low + (high - low) / 2;
         let component = served.place_order(middle, steps) as usize;
@@ -71,8 +70,7 @@ pub fn isolated_below<C: Ledger>(served: Served<'_>, place: usize, steps: &mut S
     ensures grows { steps.old ≤ steps.new }
     ensures cost { steps.new ≤ steps.old + digits (length (contents_of_view served.entry).isolated) }
 {
-    let mut low = 0;
-    let mut high = served.counts().isolated as usize;
+    let (mut low, mut high) = served.isolated_around(place);
     while low < high {
         let middle = low + (high - low) / 2;
         if (served.isolated(middle, steps) as usize) < place {

@@ -30,3 +30,4 @@ pub mod MadeCode
 pub mod MadeBytes
 pub mod NamesHeld
 pub mod WorkedParts
+pub mod PlaceLaws

@@ -15,7 +15,7 @@ use Rattle.file_laws.specs.Lawful.{first_fault, content_fault, is_whole}
 use Rattle.file_laws.specs.declared.fault.FileFault.{FileFault}
 use Rattle.file_laws.specs.declared.fault.FileFault.TheVariants as fault
 use Rattle.file_laws.proofs.Whole.{option_none, whole_sound}
-use Rattle.file_laws.proofs.Sections.{counts_fit, content_fits, whole_words}
+use Rattle.file_laws.proofs.Sections.{counts_fit, content_fits, sections_have, whole_words}
 use Rattle.pemb_file.specs.Sealed.{LacksOnlyDigest}
 use Rattle.pemb_file.proofs.FrontFaults.{begun_fault, first-some, first-none, first-last}
 
@@ -49,6 +49,11 @@ pub contents-is : (words : List ℕ) (code : Code) (forward region_bits : List B
     → contents_with code forward nodes edges faces regions places place_order isolated region_bits members ≡ contents_of words
 unfolding contents_of
 contents-is words code forward region_bits nodes edges faces regions places place_order isolated members a b c d e f g h i j k = rw (a, b, c, d, e, f, g, h, i, j, k) refl
+
+-- as many components and isolated nodes have places as the header says
+pub ordered_many : (words : List ℕ) → (length (contents_of words).place_order ≡ (counts_in words).components) × (length (contents_of words).isolated ≡ (counts_in words).isolated)
+unfolding contents_of
+ordered_many words = let have = sections_have words in (have.place_order, have.isolated)
 
 -- the parts of a content fault, in their order
 abbrev pub sequence_part : List ℕ → Option FileFault

@@ -14,3 +14,4 @@ pub mod PlacedView
 pub mod Written
 pub mod Sealed
 pub mod Draft
+pub mod Milestones

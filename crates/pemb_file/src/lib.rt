@@ -8,6 +8,8 @@ mod form;
 mod header;
 mod image;
 mod layout;
+mod marking;
+mod milestones;
 mod name_sections;
 mod open_file;
 mod opening;

@@ -1,6 +1,6 @@
 //! A lawful file that is open.
 
-ghost use Rattle.std.specs.Prelude.{◌≡◌, IsTrue};
+ghost use Rattle.std.specs.Prelude.{◌≡◌, IsTrue, length, slice_index};
 ghost use Rattle.bit_words.specs.BitView.{bits_of};
 ghost use Rattle.bit_words.specs.PackedView.{fields_of, width_of};
 ghost use Rattle.parens.specs.ParenView.{parens_of};
@@ -8,8 +8,12 @@ ghost use Rattle.turan_code.specs.TuranView.{code_of_view};
 ghost use Rattle.id_names.specs.Views.{ids_of};
 ghost use Rattle.file_laws.specs.Contents.{contents_with};
 ghost use Rattle.file_laws.specs.Lawful.{is_whole};
+ghost use Rattle.pemb_file.specs.Milestones.{AreMilestones};
 
 use crate::ahead::IdsAhead;
+use crate::marking::{among_components, among_isolated};
+use crate::milestones::Milestones;
+use crate::served::Served;
 use bit_words::{BitView, PackedView, Steps};
 use id_names::NamesView;
 use parens::ParenView;
@@ -30,12 +34,18 @@ pub struct OpenFile<'a> {
     pub(crate) isolated: PackedView<'a>,
     pub(crate) region_tree: ParenView<'a>,
     pub(crate) members: PackedView<'a>,
+    pub(crate) component_milestones: Milestones,
+    pub(crate) isolated_milestones: Milestones,
     ghost whole: { IsTrue (is_whole (contents_with (code_of_view code) (bits_of forward) (ids_of nodes) (ids_of edges)
         (ids_of faces) (ids_of regions) (fields_of places) (fields_of place_order) (fields_of isolated)
         (parens_of region_tree) (fields_of members))) },
     ghost places_width: { width_of places ≡ 32 },
     ghost order_width: { width_of place_order ≡ 32 },
     ghost isolated_width: { width_of isolated ≡ 32 },
+    ghost components_marked: { AreMilestones (λ j. slice_index (fields_of places) (slice_index (fields_of place_order) j))
+        (length (fields_of place_order)) component_milestones },
+    ghost isolated_marked: { AreMilestones (slice_index (fields_of isolated)) (length (fields_of isolated))
+        isolated_milestones },
 }
 
 impl<'a> OpenFile<'a> {
@@ -88,7 +98,23 @@ impl<'a> OpenFile<'a> {
             isolated,
             region_tree,
             members,
+            component_milestones: Milestones::none(),
+            isolated_milestones: Milestones::none(),
         }
+    }
+
+    /// Puts milestones among the places of components and of isolated nodes, between which what lies in a face is found.
+    pub(crate) fn mark_places<C: Ledger>(&mut self, steps: &mut Steps<C>)
+        ensures contents { contents_of_file self.new ≡ contents_of_file self.old }
+        ensures grows { steps.old ≤ steps.new }
+        ensures cost { steps.new ≤ steps.old + 2 * length (contents_of_file self.old).place_order
+            + length (contents_of_file self.old).isolated + 3072 }
+    {
+        let served = Served::of(self);
+        let components = among_components(served, steps);
+        let isolated = among_isolated(served, steps);
+        self.component_milestones = components;
+        self.isolated_milestones = isolated;
     }
 
     /// Looks up these ids: the names know their numbers then, and read nothing when they are asked for them.

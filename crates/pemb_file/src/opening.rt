@@ -152,7 +152,9 @@ pub fn open<'a, C: Ledger>(bytes: &'a [u8], steps: &mut Steps<C>) -> Result<Open
     ensures grows { steps.old ≤ steps.new }
 {
     let image = open_header(bytes, steps)?;
-    content(&image, steps)
+    let mut file = content(&image, steps)?;
+    file.mark_places(steps);
+    Ok(file)
 }
 
 /// The views of bytes in which nothing is wrong but perhaps their digest: nothing of them is checked again.

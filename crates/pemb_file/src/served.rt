@@ -26,6 +26,7 @@ impl<'a> Served<'a> {
     ghost use Rattle.file_laws.specs.Lawful.{is_whole};
     ghost use Rattle.region_tree.specs.RegionView.{regions_of};
     ghost use Rattle.pemb_file.specs.OpenFile.{contents_of_file};
+    ghost use Rattle.pemb_file.specs.Milestones.{IsAround, place_at};
     ghost use Rattle.pemb_file.specs.Served.{contents_of_view, regions_in, AreCounts};
 
     /// What this file says.
@@ -122,6 +123,26 @@ impl<'a> Served<'a> {
         ensures one_step { steps.new ≡ steps.old + 1 }
     {
         self.file.isolated.half_word(j, steps) as u32
+    }
+
+    /// Between which entries of the order of places those of components at places below this one end.
+    #[inline]
+    pub fn components_around(&self, place: usize) -> (usize, usize)
+        ensures { IsAround (place_at (contents_of_view self.now)) (length (contents_of_view self.now).place_order) place
+            result.0 result.1 }
+    {
+        let count = self.file.place_order.count();
+        self.file.component_milestones.around(place, count)
+    }
+
+    /// Between which isolated nodes, in their order, those at places below this one end.
+    #[inline]
+    pub fn isolated_around(&self, place: usize) -> (usize, usize)
+        ensures { IsAround (slice_index (contents_of_view self.now).isolated)
+            (length (contents_of_view self.now).isolated) place result.0 result.1 }
+    {
+        let count = self.file.isolated.count();
+        self.file.isolated_milestones.around(place, count)
     }
 
     /// The regions, and for face 0 and each face by number the one that it is in. No word is read.

@@ -1,22 +1,23 @@
-use Rattle.std.proofs.Common.{arith, ◌+◌, ◌-◌, ◌/◌, ◌≡◌, ◌∙◌, ap}
+use Rattle.std.proofs.Common.{arith, ◌+◌, ◌-◌, ◌/◌, ◌∙◌, ap}
 use Rattle.std.specs.Prelude.{slice_index}
-use Rattle.bit_words.specs.Digits.{digits}
+use Rattle.bit_words.proofs.DigitLaws.{digits-mono}
 use Rattle.file_laws.specs.Contents.{component_count}
 use Rattle.pemb_file.specs.Served.{contents_of_view}
-use Rattle.navigate.proofs.PlaceLaws.{many, component_at, places_rise, lower_half, upper_half}
+use Rattle.pemb_file.proofs.PlaceLaws.{many, component_at, places_rise, lower_half, upper_half}
 use Rattle.navigate.proofs.places.components_below.Goals as goal
 
 pub loop-low-init : goal.loop-low-init
 loop-low-init g c =
-    let n = c.counts-high.ensures.components in
+    let around = c.components_around-low.ensures in
     let all = many (contents_of_view c.args.served) c.args.served.whole in
+    let d = digits-mono (c.components_around-low.result.1 - c.components_around-low.result.0) (component_count (contents_of_view c.args.served)) (omega (arith, around.within, all)) in
     record {
-      order = omega arith;
-      within = omega (arith, n, all);
-      before = λ i l. absurd (omega (arith, l));
-      from = λ i l b. absurd (omega (arith, l, b, n, all));
+      order = around.order;
+      within = around.within;
+      before = around.before;
+      from = around.behind;
       grows = omega arith;
-      paid = (let same : c.counts-high.result.components - 0 ≡ component_count (contents_of_view c.args.served) = omega (arith, n) in let e = ap digits same in omega (arith, e));
+      paid = omega (arith, d);
     }
 
 pub place-requires : goal.place-requires

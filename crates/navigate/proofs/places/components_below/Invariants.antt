@@ -2,7 +2,7 @@ use Rattle.std.proofs.Common.{◌<◌, ◌≤◌, ◌+◌, ◌-◌, ◌*◌, ℕ
 use Rattle.bit_words.specs.Digits.{digits}
 use Rattle.file_laws.specs.Contents.{component_count}
 use Rattle.pemb_file.specs.Served.{contents_of_view}
-use Rattle.navigate.specs.Holes.{place_at}
+use Rattle.pemb_file.specs.Milestones.{place_at}
 use Rattle.navigate.proofs.places.components_below.Given as goal
 
 abbrev pub invariant-loop-low : goal.invariant-loop-low

@@ -1,7 +1,7 @@
 use Rattle.std.proofs.Common.{arith, ◌∙◌, ap}
 use Rattle.std.specs.Prelude.{slice_index}
 use Rattle.pemb_file.specs.Served.{contents_of_view}
-use Rattle.navigate.proofs.PlaceLaws.{many, component_at, places_rise}
+use Rattle.pemb_file.proofs.PlaceLaws.{many, component_at, places_rise}
 use Rattle.navigate.proofs.places.components_to.Goals as goal
 
 pub returns-then-below-counts-clause-from : goal.returns-then-below-counts-clause-from

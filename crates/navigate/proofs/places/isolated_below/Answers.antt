@@ -1,20 +1,21 @@
-use Rattle.std.proofs.Common.{arith, ◌+◌, ◌-◌, ◌/◌, ◌≡◌, ap}
+use Rattle.std.proofs.Common.{arith, ◌+◌, ◌-◌, ◌/◌}
 use Rattle.std.proofs.Common.{length}
-use Rattle.bit_words.specs.Digits.{digits}
+use Rattle.bit_words.proofs.DigitLaws.{digits-mono}
 use Rattle.pemb_file.specs.Served.{contents_of_view}
-use Rattle.navigate.proofs.PlaceLaws.{nodes_rise, lower_half, upper_half}
+use Rattle.pemb_file.proofs.PlaceLaws.{nodes_rise, lower_half, upper_half}
 use Rattle.navigate.proofs.places.isolated_below.Goals as goal
 
 pub loop-low-init : goal.loop-low-init
 loop-low-init g c =
-    let n = c.counts-high.ensures.isolated in
+    let around = c.isolated_around-low.ensures in
+    let d = digits-mono (c.isolated_around-low.result.1 - c.isolated_around-low.result.0) (length (contents_of_view c.args.served).isolated) (omega (arith, around.within)) in
     record {
-      order = omega arith;
-      within = omega (arith, n);
-      before = λ i l. absurd (omega (arith, l));
-      from = λ i l b. absurd (omega (arith, l, b, n));
+      order = around.order;
+      within = around.within;
+      before = around.before;
+      from = around.behind;
       grows = omega arith;
-      paid = (let same : c.counts-high.result.isolated - 0 ≡ length (contents_of_view c.args.served).isolated = omega (arith, n) in let e = ap digits same in omega (arith, e));
+      paid = omega (arith, d);
     }
 
 pub loop-low-preserved-then-isolated-place : goal.loop-low-preserved-then-isolated-place

@@ -1,6 +1,6 @@
 use Rattle.std.proofs.Common.{arith}
 use Rattle.pemb_file.specs.Served.{contents_of_view}
-use Rattle.navigate.proofs.PlaceLaws.{nodes_rise}
+use Rattle.pemb_file.proofs.PlaceLaws.{nodes_rise}
 use Rattle.navigate.proofs.places.isolated_to.Goals as goal
 
 pub returns-then-isolated-place-clause-from : goal.returns-then-isolated-place-clause-from

@@ -4,7 +4,7 @@ use Rattle.code_laws.specs.Code.{Code, component_count}
 use Rattle.pemb_file.specs.Served.{contents_of_view}
 use Rattle.file_laws.proofs.Fits.{components_same}
 use Rattle.navigate.proofs.Facts.{w}
-use Rattle.navigate.proofs.PlaceLaws.{component_at}
+use Rattle.pemb_file.proofs.PlaceLaws.{component_at}
 use Rattle.navigate.proofs.places.start_at.Goals as goal
 
 pub unreachable-requires : goal.unreachable-requires

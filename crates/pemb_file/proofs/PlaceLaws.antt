@@ -16,9 +16,8 @@ use Rattle.file_laws.specs.Lawful.{is_whole, whole_tests}
 use Rattle.file_laws.specs.declared.fault.FileFault.TheVariants as fault
 use Rattle.file_laws.proofs.Lengths.{none-is_none}
 use Rattle.file_laws.proofs.Agreement.{test_at}
-use Rattle.file_laws.proofs.Whole.{option_none}
-use Rattle.navigate.specs.Holes.{place_at}
-use Rattle.navigate.proofs.Facts.{w}
+use Rattle.file_laws.proofs.Whole.{option_none, whole_parts}
+use Rattle.pemb_file.specs.Milestones.{place_at}
 
 passes : (test : ℕ → Bool) (n : ℕ) → find (λ j. not (test j)) (range_with_len 0 n) ≡ None → (j : ℕ) → j < n → test j ≡ true
 passes test n h j l = not-false _ (none-find (λ j. not (test j)) 0 n h j (omega arith) (omega arith))
@@ -61,10 +60,10 @@ module _ (c : Contents) (h : is_whole c ≡ true) where
       (option_none (fault.Place 18) (order_fault c) b.0, option_none (fault.Place 19) (isolated_fault c) d.0)
 
   pub many : length c.place_order ≡ component_count c
-  many = (w c h).sizes.orders
+  many = (whole_parts c h).sizes.orders
 
   pub component_at : (j : ℕ) → j < length c.place_order → slice_index c.place_order j < component_count c
-  component_at j l = let n = many in (w c h).order j (omega (arith, l, n))
+  component_at j l = let n = many in (whole_parts c h).order j (omega (arith, l, n))
 
   follows : (j : ℕ) → suc j < length c.place_order → precedes c (slice_index c.place_order j) (slice_index c.place_order (suc j)) ≡ true
   unfolding order_fault
