@@ -1,6 +1,6 @@
 -- The numbers of a shortest walk as text, and how many they are.
-use Rattle.std.specs.Prelude.{flat_map, map, unwrap_or}
-use Rattle.std.proofs.Common.{◌≡◌, ℕ, ◌+◌, ◌≤◌, true, List, length, Option, Some, sym, ap, arith}
+use Rattle.std.specs.Prelude.{flat_map, if◌then◌else◌, map, unwrap_or}
+use Rattle.std.proofs.Common.{◌≡◌, ℕ, suc, ◌+◌, ◌≤◌, Bool, true, false, List, ◌∷◌, ◌++◌, length, Option, Some, refl, sym, ap, append_assoc, arith}
 use Rattle.std.proofs.lemmas.Bool.{and_parts}
 use Rattle.topo_base.specs.Script.{Item, item_text}
 use Rattle.plane_model.specs.Rotation.{is_face}
@@ -33,3 +33,13 @@ walked_least c whole f g n first last faces known moves is least =
     let same = ap length is in
     let counted : moves_between (map_with c) f g ≡ n = ap (λ (o : Option ℕ). unwrap_or o 0) moves in
     omega (arith, long, same, counted, least)
+
+-- a step from a face that was given reads a word
+pub one_read : (begun : Bool) (first all before after left rest : ℕ) → left ≡ suc rest → (begun ≡ true → before + 1 ≤ after) → before ≤ after
+    → first + all ≤ before + left + (if begun then 1 else 0) → first + all ≤ after + rest + 1
+one_read true first all before after left rest long read grows least = let r = read refl in omega (arith, long, r, least)
+one_read false first all before after left rest long read grows least = omega (arith, long, grows, least)
+
+-- a number put behind a text is the first of those that are left
+pub one_more : (text longer left rest : List ℕ) (number : ℕ) → longer ≡ text ++ item_text (Item.Number number) → left ≡ number ∷ rest → longer ++ spaced rest ≡ text ++ spaced left
+one_more text longer left rest number is next = rw (is, next) (append_assoc text (item_text (Item.Number number)) (spaced rest))
