@@ -26,6 +26,7 @@ pub mod ToAll
 pub mod FaultOrder
 pub mod CheckCosts
 pub mod NameLaws
+pub mod Gapless
 pub mod NumberLaws
 pub mod PlaceLaws
 pub mod LookAhead

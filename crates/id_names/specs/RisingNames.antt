@@ -1,5 +1,5 @@
 -- Names as a rising list of the ids, the place of each number in it, and the inverse of the places.
-use Rattle.std.specs.Prelude.{ℕ, ◌+◌, ◌^◌, Bool, List, length, slice_index, Option}
+use Rattle.std.specs.Prelude.{ℕ, ◌≡◌, ◌<◌, ◌+◌, ◌^◌, Bool, List, length, slice_index, Option}
 use Rattle.bit_words.specs.Digits.{digits}
 use Rattle.bit_words.specs.Lists.{tabulate}
 use Rattle.id_names.specs.Rising.{rising_at}
@@ -34,6 +34,10 @@ id_bound p = bound_of (count p) p.low
 -- the id at place j of the rising list
 abbrev pub id_at : RisingNames → ℕ → ℕ
 id_at p j = rising_at p.high p.lows p.low j
+
+-- the ids are 1, 2, 3 and so on, with no gap among them
+abbrev pub HasNoGap : RisingNames → Type 0
+HasNoGap p = (j : ℕ) → j < count p → id_at p j ≡ j + 1
 
 -- the ids by number
 unfoldable pub ids_by_number : RisingNames → List ℕ

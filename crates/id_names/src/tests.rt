@@ -385,7 +385,8 @@ fn has_all<C: Ledger>(
     true
 }
 
-/// The same, before some of them are looked up ahead and after.
+/// The same, before some of them are looked up ahead, after, and where gaps among the ids are noted, none of which are
+/// found exactly where the greatest is as great as they are many.
 fn has_ids<C: Ledger>(
     alloc: Global,
     names: NamesView<'_>,
@@ -409,7 +410,13 @@ fn has_ids<C: Ledger>(
         ids.first().copied(),
     ];
     names.look_ahead(ahead, &mut steps);
-    has_all(&names, ids, others, &mut steps)
+    if !has_all(&names, ids, others, &mut steps) {
+        return false;
+    }
+    names.note_gaps(&mut steps);
+    let greatest = ids.iter().copied().max().unwrap_or(0);
+    names.is_gapless() == (greatest == ids.len() as IdNumber)
+        && has_all(&names, ids, others, &mut steps)
 }
 
 /// Whether the names of these words are these ids by number, and no others.

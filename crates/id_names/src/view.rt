@@ -1,13 +1,13 @@
 //! Names that are asked both ways: the id of a number, and the number of an id.
 
-ghost use Rattle.std.specs.Prelude.{◌≡◌, length, None};
+ghost use Rattle.std.specs.Prelude.{◌≡◌, length, true, None};
 ghost use Rattle.bit_words.specs.PackedView.{fields_of};
 ghost use Rattle.rank_select.specs.RankView.{counted};
 ghost use Rattle.rank_select.specs.Counts.{counts_of};
 ghost use Rattle.id_names.specs.Faults.{name_fault};
 ghost use Rattle.id_names.specs.Known.{AreKnown};
 ghost use Rattle.id_names.specs.PartViews.{names_over};
-ghost use Rattle.id_names.specs.RisingNames.{ids_by_number};
+ghost use Rattle.id_names.specs.RisingNames.{ids_by_number, HasNoGap};
 
 use crate::inverse::Inverse;
 use crate::known::{KnownNumbers, known_numbers, known_of, none_known};
@@ -25,20 +25,23 @@ use topo_base::IdNumber;
 pub struct NamesView<'a> {
     ids: RisingIds<'a>,
     inverse: Inverse<'a>,
+    /// Whether the ids are known to be 1, 2, 3 and so on, with no gap among them.
+    is_gapless: bool,
     /// What was looked up ahead.
     known: KnownNumbers,
     ghost count: { length (fields_of ids.lows) ≡ length (fields_of inverse.places) },
     ghost right: { name_fault (names_over ids inverse) (counts_of (counted ids.high))
         (counts_of (counted inverse.marks)) ≡ None },
+    ghost gapless: { is_gapless ≡ true → HasNoGap (names_over ids inverse) },
     ghost looked_up: { AreKnown (ids_by_number (names_over ids inverse)) known },
 }
 
 impl<'a> NamesView<'a> {
-    ghost use Rattle.std.specs.Prelude.{◌≡◌, ◌≢◌, ◌<◌, ◌≤◌, ◌+◌, ◌*◌, ◌^◌, ℕ, length, slice_index, None, Some, IfSome, MatchOption};
+    ghost use Rattle.std.specs.Prelude.{◌≡◌, ◌≢◌, ◌<◌, ◌≤◌, ◌+◌, ◌*◌, ◌^◌, ◌↔◌, ℕ, length, slice_index, true, None, Some, IsTrue, IfSome, MatchOption};
     ghost use Rattle.bit_words.specs.Digits.{digits};
     ghost use Rattle.id_names.specs.Names.{AreDistinctIds, number_of};
     ghost use Rattle.id_names.specs.Known.{asked, IsNew};
-    ghost use Rattle.id_names.specs.RisingNames.{id_bound, id_at, number_at};
+    ghost use Rattle.id_names.specs.RisingNames.{id_bound, id_at, number_at, HasNoGap};
     ghost use Rattle.id_names.specs.Parts.{fault_of, names_of, HasSizes};
     ghost use Rattle.id_names.specs.Views.{ids_of, names_in};
 
@@ -58,8 +61,58 @@ impl<'a> NamesView<'a> {
                 marks: RankView::new(parts.marks, parts.mark_counts),
                 back: parts.back,
             },
+            is_gapless: false,
             known: none_known(),
         }
+    }
+
+    /// Whether the ids are 1, 2, 3 and so on with no gap among them, as the greatest of them tells.
+    fn has_no_gap<C: Ledger>(&self, steps: &mut Steps<C>) -> bool
+        ensures gapless { IsTrue result ↔ HasNoGap (names_in self.now) }
+        ensures grows { steps.old ≤ steps.new }
+        ensures cost { steps.new ≤ steps.old + 3 * digits (length (ids_of self.now) + 2) + 18 }
+        ensures few_words { steps.new ≤ steps.old + 93 }
+    {
+        let count = self.count();
+        if count == 0 {
+            return true;
+        }
+        let greatest = self.id_at(count - 1, steps);
+        greatest == count as IdNumber
+    }
+
+    /// Notes whether the ids are 1, 2, 3 and so on with no gap among them. Where they are, a place tells its id and an id
+    /// its place, so that nothing is read for either.
+    pub fn note_gaps<C: Ledger>(&mut self, steps: &mut Steps<C>)
+        ensures names { names_in self.new ≡ names_in self.old }
+        ensures known { (self.new).known ≡ (self.old).known }
+        ensures gapless { IsTrue (self.new).is_gapless ↔ HasNoGap (names_in self.old) }
+        ensures grows { steps.old ≤ steps.new }
+        ensures cost { steps.new ≤ steps.old + 3 * digits (length (ids_of self.old) + 2) + 18 }
+        ensures few_words { steps.new ≤ steps.old + 93 }
+    {
+        let is_gapless = self.has_no_gap(steps);
+        self.is_gapless = is_gapless;
+    }
+
+    /// Whether it was noted that the ids are 1, 2, 3 and so on with no gap among them.
+    #[inline(always)]
+    pub fn is_gapless(&self) -> bool
+        ensures noted { result ≡ self.now.is_gapless }
+        ensures gapless { IsTrue result → HasNoGap (names_in self.now) }
+    {
+        self.is_gapless
+    }
+
+    /// The id at a place of the list of names that rises by id, where there is no gap among the ids. No word is read.
+    #[inline(always)]
+    pub fn id_without_gaps(&self, place: usize) -> IdNumber
+        requires within { place < length (ids_of self.now) }
+        requires gapless { HasNoGap (names_in self.now) }
+        ensures id { result ≡ id_at (names_in self.now) place }
+    {
+        let _count = self.count();
+        place as IdNumber + 1
     }
 
     /// The places of the numbers, with what they are found by again.
@@ -138,11 +191,44 @@ impl<'a> NamesView<'a> {
         ensures cost { steps.new ≤ steps.old + 3 * digits (length (ids_of self.now) + 2) + 20 }
     {
         let place = self.rank_of(number, steps);
+        if self.is_gapless() {
+            return self.id_without_gaps(place);
+        }
         self.id_at(place, steps)
+    }
+
+    /// The place of the list at which this id stands, where there is no gap among the ids, or None where it stands at
+    /// none. No word is read.
+    fn place_without_gaps(&self, id: IdNumber) -> Option<usize>
+        requires gapless { HasNoGap (names_in self.now) }
+        ensures place { MatchOption result ((k : ℕ) → k < length (ids_of self.now) → id_at (names_in self.now) k ≢ id)
+            (λ place. (place < length (ids_of self.now)) × (id_at (names_in self.now) place ≡ id)) }
+    {
+        if id == 0 {
+            return None;
+        }
+        if id > self.count() as IdNumber {
+            return None;
+        }
+        Some((id - 1) as usize)
     }
 
     /// The place of the list at which this id stands, or None where it stands at none.
     fn place_of<C: Ledger>(&self, id: IdNumber, steps: &mut Steps<C>) -> Option<usize>
+        ensures place { MatchOption result ((k : ℕ) → k < length (ids_of self.now) → id_at (names_in self.now) k ≢ id)
+            (λ place. (place < length (ids_of self.now)) × (id_at (names_in self.now) place ≡ id)) }
+        ensures grows { steps.old ≤ steps.new }
+        ensures cost { steps.new ≤ steps.old + 8 * digits (length (ids_of self.now) + 2) + 32 }
+    {
+        if self.is_gapless() {
+            self.place_without_gaps(id)
+        } else {
+            self.place_by_search(id, steps)
+        }
+    }
+
+    /// The same by a search among the ids of its high part.
+    fn place_by_search<C: Ledger>(&self, id: IdNumber, steps: &mut Steps<C>) -> Option<usize>
         ensures place { MatchOption result ((k : ℕ) → k < length (ids_of self.now) → id_at (names_in self.now) k ≢ id)
             (λ place. (place < length (ids_of self.now)) × (id_at (names_in self.now) place ≡ id)) }
         ensures grows { steps.old ≤ steps.new }

@@ -152,6 +152,10 @@ module _ (names : RisingNames) where
   rank_signed r (pos n) e id is at made = made ∙ rw is.direction (ap pos (at ∙ is.id))
   rank_signed r (negsuc n) e id is at made = made ∙ rw is.direction (ap (λ x. neg_ℤ (pos x)) (at ∙ is.id))
 
+-- what is given, with one more put down
+pub one_given : (ds old es later new : List ℤ) (edge d : ℤ) → ds ≡ old ++ es → es ≡ d ∷ later → edge ≡ d → new ≡ old ++ edge ∷ [] → ds ≡ new ++ later
+one_given ds old es later new edge d all first same more = all ∙ ap (λ x. old ++ x) (first ∙ ap (λ x. x ∷ later) (sym same)) ∙ sym (append_assoc old (edge ∷ []) later) ∙ ap (λ x. x ++ later) (sym more)
+
 -- the same among other names that are these
 pub named_ranks : (names other : RisingNames) (rs ts : List RankedEdge) (ds : List ℤ) → names ≡ other → ts ≡ rs → AreRanksOf names rs ds → AreRanksOf other ts ds
 named_ranks names other rs ts ds e f are = subst (λ (x : RisingNames). AreRanksOf x ts ds) e (subst (λ (xs : List RankedEdge). AreRanksOf names xs ds) (sym f) are)

@@ -2,6 +2,7 @@
 
 ghost use Rattle.std.specs.Prelude.{ℤ, List, ◌≡◌, ◌≤◌, ◌+◌, ◌*◌, ◌++◌, [], drop, take, length, map};
 ghost use Rattle.bit_words.specs.Digits.{digits};
+ghost use Rattle.id_names.specs.RisingNames.{HasNoGap};
 ghost use Rattle.id_names.specs.Views.{ids_of, names_in};
 ghost use Rattle.navigate.specs.Ranked.{AreRanksOf, low_of};
 ghost use Rattle.navigate.specs.FirstEdges.{edges_in as first_in};
@@ -44,10 +45,26 @@ fn low_parts<C: Ledger>(
     lows
 }
 
+/// Puts down the signed edges of these ranks among names without gaps, in the place of those that stood there. No word is
+/// read.
+#[inline(always)]
+fn edges_without_gaps(names: &NamesView<'_>, ranks: &[RankedEdge], edges: &mut Several)
+    requires few { length ranks.now ≤ SEVERAL }
+    requires gapless { HasNoGap (names_in names.now) }
+    requires ranks { (edges : List ℤ) × AreRanksOf (names_in names.now) ranks.now edges }
+    ensures edges { (given : List ℤ) → AreRanksOf (names_in names.now) ranks.now given → edges_in edges.new ≡ given }
+{
+    edges.clear();
+    for edge in ranks {
+        let id = names.id_without_gaps(edge.rank as usize);
+        edges.push(with_direction(id, edge.is_forward));
+    }
+}
+
 /// Puts down the signed edges of these ranks among the names, in the place of those that stood there. The low parts of
 /// their ids, which stand far from one another, are read before all else.
 #[inline(always)]
-pub(crate) fn edges_of<C: Ledger>(
+fn edges_by_reading<C: Ledger>(
     names: &NamesView<'_>,
     ranks: &[RankedEdge],
     edges: &mut Several,
@@ -68,6 +85,27 @@ pub(crate) fn edges_of<C: Ledger>(
     }
 }
 
+/// Puts down the signed edges of these ranks among the names, in the place of those that stood there.
+#[inline(always)]
+pub(crate) fn edges_of<C: Ledger>(
+    names: &NamesView<'_>,
+    ranks: &[RankedEdge],
+    edges: &mut Several,
+    steps: &mut Steps<C>,
+)
+    requires few { length ranks.now ≤ SEVERAL }
+    requires ranks { (edges : List ℤ) × AreRanksOf (names_in names.now) ranks.now edges }
+    ensures edges { (given : List ℤ) → AreRanksOf (names_in names.now) ranks.now given → edges_in edges.new ≡ given }
+    ensures grows { steps.old ≤ steps.new }
+    ensures cost { steps.new ≤ steps.old + (3 * digits (length (ids_of names.now) + 2) + 18) * length ranks.now }
+{
+    if names.is_gapless() {
+        edges_without_gaps(names, ranks, edges);
+    } else {
+        edges_by_reading(names, ranks, edges, steps);
+    }
+}
+
 /// Puts down the signed edges of these ranks among the names behind those that stand there, several at once.
 pub(crate) fn put_down<C: Ledger>(
     names: &NamesView<'_>,
@@ -79,7 +117,7 @@ pub(crate) fn put_down<C: Ledger>(
     requires ranks { (edges : List ℤ) × AreRanksOf (names_in names.now) ranks.now edges }
     ensures edges { (given : List ℤ) → AreRanksOf (names_in names.now) ranks.now given
         → first_in edges.new ≡ first_in edges.old ++ given }
-    ensures least { steps.old + length ranks.now ≤ steps.new }
+    ensures grows { steps.old ≤ steps.new }
     ensures cost { steps.new ≤ steps.old + (3 * digits (length (ids_of names.now) + 2) + 18) * length ranks.now }
 {
     let mut several = Several::none();
@@ -106,7 +144,7 @@ pub(crate) fn put_down_turned<C: Ledger>(
     requires ranks { (edges : List ℤ) × AreRanksOf (names_in names.now) ranks.now edges }
     ensures edges { (given : List ℤ) → AreRanksOf (names_in names.now) ranks.now given
         → first_in edges.new ≡ drop before given ++ take before given }
-    ensures least { steps.old + length ranks.now ≤ steps.new }
+    ensures grows { steps.old ≤ steps.new }
     ensures cost { steps.new ≤ steps.old + (3 * digits (length (ids_of names.now) + 2) + 18) * length ranks.now }
 {
     let (front, back) = ranks.split_at(before);

@@ -30,7 +30,7 @@ class_cost c n h =
     omega (arith, m)
 
 pub whole_cost : (c : HeaderCounts) → count_fault c ≡ None
-    → 11 + (placed_cost c + all_names_cost c + 42 * c.edges + 12 * c.regions + 209) + (2 * c.components + c.isolated + 3072) ≤ 1024 * digits (file_size c) * (file_size c + 2)
+    → 11 + (placed_cost c + all_names_cost c + 42 * c.edges + 12 * c.regions + 209) + (2 * c.components + c.isolated + 3072) + 372 ≤ 1024 * digits (file_size c) * (file_size c + 2)
 whole_cost c h =
     let k = counts_fit c h in
     let m = c.edges in

@@ -49,11 +49,12 @@ pub struct OpenFile<'a> {
 }
 
 impl<'a> OpenFile<'a> {
-    ghost use Rattle.std.specs.Prelude.{◌≡◌, ◌≤◌, ◌+◌, ◌*◌, length, IsTrue};
+    ghost use Rattle.std.specs.Prelude.{◌≡◌, ◌≤◌, ◌+◌, ◌*◌, ◌↔◌, length, IsTrue};
     ghost use Rattle.bit_words.specs.Digits.{digits};
     ghost use Rattle.id_names.specs.Known.{asked};
     ghost use Rattle.turan_code.specs.TuranView.{code_of_view};
-    ghost use Rattle.id_names.specs.Views.{ids_of};
+    ghost use Rattle.id_names.specs.RisingNames.{HasNoGap};
+    ghost use Rattle.id_names.specs.Views.{ids_of, names_in};
     ghost use Rattle.bit_words.specs.BitView.{bits_of};
     ghost use Rattle.bit_words.specs.PackedView.{fields_of, width_of};
     ghost use Rattle.parens.specs.ParenView.{parens_of};
@@ -115,6 +116,23 @@ impl<'a> OpenFile<'a> {
         let isolated = among_isolated(served, steps);
         self.component_milestones = components;
         self.isolated_milestones = isolated;
+    }
+
+    /// Notes of the names of each kind whether their ids are 1, 2, 3 and so on with no gap among them, so that look-ups
+    /// don't read these.
+    pub(crate) fn note_gaps<C: Ledger>(&mut self, steps: &mut Steps<C>)
+        ensures contents { contents_of_file self.new ≡ contents_of_file self.old }
+        ensures nodes { IsTrue (self.new).nodes.is_gapless ↔ HasNoGap (names_in (self.old).nodes) }
+        ensures edges { IsTrue (self.new).edges.is_gapless ↔ HasNoGap (names_in (self.old).edges) }
+        ensures faces { IsTrue (self.new).faces.is_gapless ↔ HasNoGap (names_in (self.old).faces) }
+        ensures regions { IsTrue (self.new).regions.is_gapless ↔ HasNoGap (names_in (self.old).regions) }
+        ensures grows { steps.old ≤ steps.new }
+        ensures cost { steps.new ≤ steps.old + 372 }
+    {
+        self.nodes.note_gaps(steps);
+        self.edges.note_gaps(steps);
+        self.faces.note_gaps(steps);
+        self.regions.note_gaps(steps);
     }
 
     /// Looks up these ids: the names know their numbers then, and read nothing when they are asked for them.

@@ -154,6 +154,7 @@ pub fn open<'a, C: Ledger>(bytes: &'a [u8], steps: &mut Steps<C>) -> Result<Open
     let image = open_header(bytes, steps)?;
     let mut file = content(&image, steps)?;
     file.mark_places(steps);
+    file.note_gaps(steps);
     Ok(file)
 }
 

@@ -1,4 +1,4 @@
-use Rattle.std.proofs.Common.{◌≡◌, ◌+◌, ◌∙◌, Bool, true, false, get_or, sym, subst, arith}
+use Rattle.std.proofs.Common.{◌≡◌, ◌∙◌, true, false, get_or, sym, subst, arith}
 use Rattle.bit_words.proofs.Ranks.{rank-le, rank_more_yes, rank_more_no}
 use Rattle.rank_select.specs.RankView.{counted}
 use Rattle.id_names.proofs.Walks.{mark_within}

@@ -10,7 +10,7 @@ pub loop-left-init : goal.loop-left-init
 loop-left-init g c = record {
   left = λ ds are. record { left = ds; all = refl; are = are };
   count = refl;
-  least = omega arith;
+  grows = omega arith;
   cost = omega arith;
 }
 
@@ -45,7 +45,7 @@ loop-left-preserved g c =
     record {
       left = λ ds are. left_ranks names left now later c.min.result (first_in c.loop-left.edges) (edges_in c.edges_of.new.edges) (first_in c.extend.new.self) (first_in c.args.edges.now) ds c.split_at.ensures.front c.split_at.ensures.back c.edges_of.ensures.edges more (i.left ds are);
       count = omega (arith, n, many, all, i.count);
-      least = omega (arith, c.edges_of.ensures.least, all, i.least);
+      grows = omega (arith, c.edges_of.ensures.grows, i.grows);
       cost = omega (arith, c.edges_of.ensures.cost, paid, i.cost);
     }
 

@@ -10,7 +10,7 @@ abbrev pub invariant-loop-left : goal.invariant-loop-left
 invariant-loop-left g l = record {
   left : (ds : List ℤ) → AreRanksOf (names_in l.names) l.ranks ds → LeftRanks (names_in l.names) l.left (edges_in l.edges) (edges_in l.initial.edges) ds;
   count : length (edges_in l.edges) + length l.left ≡ length (edges_in l.initial.edges) + length l.ranks;
-  least : l.initial.steps + length l.ranks ≤ l.steps + length l.left;
+  grows : l.initial.steps ≤ l.steps;
   cost : l.steps + (3 * digits (length (ids_of l.names) + 2) + 18) * length l.left ≤ l.initial.steps + (3 * digits (length (ids_of l.names) + 2) + 18) * length l.ranks;
 }
 

@@ -187,7 +187,8 @@ returns-in_default-ranked_once-clause-least g c =
     let are = named_ranks (edge_names c.loop-names.walk) (names_in c.edges-names.result.now) c.loop-names.ranks.items c.as_slice.result.now ds all c.as_slice.ensures.value i.ranks.2 in
     let put = ap length (c.put_down_turned.ensures.edges ds are) ∙ length-turned c.loop-names.before ds in
     let many = ranks_many (names_in c.edges-names.result.now) c.as_slice.result.now ds are in
-    omega (arith, put, many, i.many, c.in_default-ranked_once.ensures.cost, c.put_down_turned.ensures.least)
+    let same = ap length c.as_slice.ensures.value in
+    omega (arith, put, many, same, i.many, c.in_default-ranked_once.ensures.cost, c.put_down_turned.ensures.grows)
 
 pub returns-in_default-ranked_once-clause-paid : goal.returns-in_default-ranked_once-clause-paid
 returns-in_default-ranked_once-clause-paid g c =

@@ -52,4 +52,4 @@ returns-clause-cost g c =
     let many = ordered_many (view_words i.words) in
     let order : length (contents_of_file c.in_ok-file.file).place_order ≡ (counts_in (view_words i.words)).components = ap (λ k. length k.place_order) c.in_ok-file.ensures.contents ∙ many.0 in
     let isolated : length (contents_of_file c.in_ok-file.file).isolated ≡ (counts_in (view_words i.words)).isolated = ap (λ k. length k.isolated) c.in_ok-file.ensures.contents ∙ many.1 in
-    omega (arith, w, e, order, isolated, c.in_ok-image.ensures.cost, c.in_ok-file.ensures.cost, c.mark_places.ensures.cost)
+    omega (arith, w, e, order, isolated, c.in_ok-image.ensures.cost, c.in_ok-file.ensures.cost, c.mark_places.ensures.cost, c.note_gaps.ensures.cost)

@@ -27,6 +27,7 @@ invariant_of-self g c =
     record {
       count = v.count;
       right = v.right;
+      gapless = v.gapless;
       looked_up = known_by_items (ids_of v) c.args.ids c.four_numbers-numbers.result c.known_numbers-self.result c.known_numbers-self.ensures.asked c.known_numbers-self.ensures.numbers (λ j h.
           of_four (λ j. (id : ℕ) → get_or c.args.ids j None ≡ Some id → get_or c.four_numbers-numbers.result j None ≡ number_of (ids_of v) id)
           (λ id e. ap (λ xs. get_or xs 0 None) found ∙ looked_up p hc mc v.right (get_or c.args.ids 0 None) first (number_for v.inverse first) c.place_for.ensures.place (none first) (some first) id e)

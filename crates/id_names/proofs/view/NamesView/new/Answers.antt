@@ -57,6 +57,7 @@ invariant_of-result-3 c =
           (counts_right (bits_of p.high) (fields_of p.high_counts) c.requires.sizes.high_counts parts.high_counts_right)
           (counts_right (bits_of p.marks) (fields_of p.mark_counts) c.requires.sizes.mark_counts parts.mark_counts_right)
           c.requires.right;
+      gapless = λ e. cc;
       looked_up = c.none_known.ensures _;
     }
 

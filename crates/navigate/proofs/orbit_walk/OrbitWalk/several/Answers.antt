@@ -28,7 +28,7 @@ returns-clause-least g c =
     let given = s.gives.0 in
     let same : edges_in c.edges_of.new.edges ≡ given = c.edges_of.ensures.edges given (subst (λ (xs : List RankedEdge). AreRanksOf names xs given) (sym c.as_slice.ensures.value) s.gives.2) in
     let n : length ranks ≡ length (edges_in c.edges_of.new.edges) = ranks_many names ranks given s.gives.2 ∙ ap length (sym same) in
-    omega (arith, n, s.least, c.edges_of.ensures.least)
+    omega (arith, n, s.least, c.edges_of.ensures.grows)
 
 pub returns-clause-free : goal.returns-clause-free
 returns-clause-free g c = λ e.
@@ -41,7 +41,7 @@ returns-clause-free g c = λ e.
     let n : length c.as_slice.result.now ≡ 0 = ap length (c.as_slice.ensures.value ∙ none) in
     let cost = subst (λ k. c.edges_of.new.steps ≤ c.several_ranked.new.steps + (3 * digits (length (ids_of c.args.self.now.edges.now) + 2) + 18) * k) n c.edges_of.ensures.cost in
     let read = s.free none in
-    omega (arith, read, cost, c.edges_of.ensures.least)
+    omega (arith, read, cost, c.edges_of.ensures.grows)
 
 pub returns-clause-paid : goal.returns-clause-paid
 returns-clause-paid g c =

@@ -3,7 +3,7 @@ use Rattle.bit_words.specs.Digits.{digits}
 use Rattle.id_names.specs.Views.{ids_of, names_in}
 use Rattle.navigate.specs.Several.{edges_in}
 use Rattle.navigate.specs.Ranked.{AreRanksOf}
-use Rattle.navigate.proofs.ranked_edges.edges_of.Given as goal
+use Rattle.navigate.proofs.ranked_edges.edges_by_reading.Given as goal
 
 abbrev pub invariant-loop-place : goal.invariant-loop-place
 invariant-loop-place g l = record {

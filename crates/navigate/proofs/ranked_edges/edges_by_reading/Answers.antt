@@ -1,14 +1,11 @@
-use Rattle.std.proofs.Common.{◌≡◌, ◌+◌, ◌*◌, ◌∷◌, ◌++◌, [], ℤ, List, length, length-append, append_assoc, append-nil, drop, refl, ap, sym, ◌∙◌, arith}
+use Rattle.std.proofs.Common.{◌≡◌, ◌+◌, ◌*◌, ◌∷◌, ◌++◌, [], length, length-append, append-nil, drop, refl, ap, sym, ◌∙◌, arith}
 use Rattle.std.proofs.lemmas.List.{drop_all}
 use Rattle.std.specs.Prelude.{slice_index_or}
 use Rattle.bit_words.specs.Digits.{digits}
 use Rattle.id_names.specs.Views.{ids_of, names_in}
 use Rattle.navigate.specs.Several.{edges_in}
-use Rattle.navigate.proofs.RankLists.{no_rank, this_rank, low_at_place, ranks_none, rank_id, rank_signed, cost_more}
-use Rattle.navigate.proofs.ranked_edges.edges_of.Goals as goal
-
-one_given : (ds old es later new : List ℤ) (edge d : ℤ) → ds ≡ old ++ es → es ≡ d ∷ later → edge ≡ d → new ≡ old ++ edge ∷ [] → ds ≡ new ++ later
-one_given ds old es later new edge d all first same more = all ∙ ap (λ x. old ++ x) (first ∙ ap (λ x. x ∷ later) (sym same)) ∙ sym (append_assoc old (edge ∷ []) later) ∙ ap (λ x. x ++ later) (sym more)
+use Rattle.navigate.proofs.RankLists.{no_rank, this_rank, low_at_place, ranks_none, rank_id, rank_signed, cost_more, one_given}
+use Rattle.navigate.proofs.ranked_edges.edges_by_reading.Goals as goal
 
 pub id_with-id-requires-clause-within : goal.id_with-id-requires-clause-within
 id_with-id-requires-clause-within g c =

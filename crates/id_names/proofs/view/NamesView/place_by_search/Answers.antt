@@ -11,7 +11,7 @@ use Rattle.id_names.proofs.DigitBounds.{less_left}
 use Rattle.id_names.proofs.NameLaws.{length-ids}
 use Rattle.id_names.proofs.NumberLaws.{less_is, equal_is, greater_is}
 use Rattle.id_names.proofs.PlaceLaws.{high_small, wanted_is, below_bucket, above_bucket, before_low, after_low, at_low, not_earlier, not_later}
-use Rattle.id_names.proofs.view.NamesView.place_of.Goals as goal
+use Rattle.id_names.proofs.view.NamesView.place_by_search.Goals as goal
 
 pub span-span-requires : goal.span-span-requires
 span-span-requires g c = high_small c.args.id c.width-low.result (omega (arith, c.args.self.now.ids.lows.some, c.width-low.ensures)) (omega arith)

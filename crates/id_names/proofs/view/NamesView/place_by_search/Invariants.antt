@@ -5,7 +5,7 @@ use Rattle.rank_select.specs.RankView.{counted}
 use Rattle.id_names.specs.Rising.{high_part}
 use Rattle.id_names.specs.RisingNames.{id_at}
 use Rattle.id_names.specs.Views.{names_in}
-use Rattle.id_names.proofs.view.NamesView.place_of.Given as goal
+use Rattle.id_names.proofs.view.NamesView.place_by_search.Given as goal
 
 abbrev pub invariant-loop-span : goal.invariant-loop-span
 invariant-loop-span g l = record {
