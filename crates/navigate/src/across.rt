@@ -147,8 +147,8 @@ impl<'a> AdjacentWalk<'a> {
         Some(face)
     }
 
-    /// Takes the marks of the faces given so far away: by their places where it kept them all, and else by going
-    /// once round the rings.
+    /// Takes the marks of the faces given so far away: by their places where it kept them all, all marks at once
+    /// where their words are at most eight times as many as these faces, and else by going once round the rings.
     pub fn close<C: Ledger>(self, marks: &mut Marks<'_>, steps: &mut Steps<C>)
         requires room { length (contents_in self).faces < room_of marks.old }
         requires marks { HoldsGiven self marks.old }
@@ -160,6 +160,8 @@ impl<'a> AdjacentWalk<'a> {
         let count = self.count;
         if count <= KEPT {
             clear_places(marks, &self.given[..count]);
+        } else if marks.room() / 512 <= count {
+            marks.clear_all();
         } else {
             clear_across(self.whole, marks, steps);
         }

@@ -55,6 +55,14 @@ impl<'r> Marks<'r> {
     {
         self.words[i / 64] &= !(1 << (i % 64));
     }
+
+    /// Takes all marks away, word by word.
+    pub fn clear_all(&mut self)
+        ensures room { room_of self.new ≡ room_of self.old }
+        ensures empty { IsEmpty self.new }
+    {
+        zero(self.words);
+    }
 }
 
 /// Puts 0 into each word.

@@ -35,6 +35,8 @@ fn a_part_is_empty_and_changes_one_number(rt: HostRuntime) {
             assert!(rt; !marks.has(62) && marks.has(63) && marks.has(64) && !marks.has(65));
             marks.clear(63);
             assert!(rt; !marks.has(62) && !marks.has(63) && marks.has(64) && !marks.has(65));
+            marks.clear_all();
+            assert!(rt; !marks.has(0) && !marks.has(63) && !marks.has(64) && !marks.has(127));
         }
         Err(_) => assert!(rt; false),
     }

@@ -29,17 +29,17 @@ returns-then-count-le-KEPT-clause-empty g c = λ j.
     let among : is_marked c.args.marks.now j ≡ true → has (take v.count v.given) j ≡ true = λ on. ap (λ xs. has xs j) (v.kept c.if-count-le-KEPT.true) ∙ sym (c.requires.marks j) ∙ on in
     c.clear_places.ensures.marked j ∙ none_left (is_marked c.args.marks.now j) (has (take v.count v.given) j) among
 
-pub returns-else-count-le-KEPT-clause-empty : goal.returns-else-count-le-KEPT-clause-empty
-returns-else-count-le-KEPT-clause-empty g c = λ j.
+pub returns-else-room-count-clause-empty : goal.returns-else-room-count-clause-empty
+returns-else-room-count-clause-empty g c = λ j.
     let v = c.args.self in
     let all = face_positions v.whole in
     let among : is_marked c.args.marks.now j ≡ true → has (map (place_across (rings.contents_in v.whole)) all) j ≡ true
     = λ on. subst (λ (x : Contents). has (map (place_across x) all) j ≡ true) (sym v.same) (given_across (contents_in v) v.place all v.count j (sym (c.requires.marks j) ∙ on)) in
     c.clear_across.ensures.marked j ∙ none_left (is_marked c.args.marks.now j) (has (map (place_across (rings.contents_in v.whole)) all) j) among
 
-pub returns-else-count-le-KEPT-clause-paid : goal.returns-else-count-le-KEPT-clause-paid
+pub returns-else-room-count-clause-paid : goal.returns-else-room-count-clause-paid
 unfolding allowance
-returns-else-count-le-KEPT-clause-paid g c =
+returns-else-room-count-clause-paid g c =
     let v = c.args.self in
     let round = ap (λ (x : Contents). pass_price x * length (face_positions v.whole)) v.same in
     omega (arith, c.clear_across.ensures.paid, round)
