@@ -1,5 +1,5 @@
 -- What the queries of this crate say, in the words of the script's grammar.
-use Rattle.std.specs.Prelude.{◌≤◌, Option, Some, None}
+use Rattle.std.specs.Prelude.{◌≡◌, ◌≢◌, ◌<◌, ◌≤◌, ℕ, List, Option, Some, None, slice_index}
 use Rattle.topo_base.specs.Script as script
 use Rattle.topo_base.specs.Script.{Line}
 use Rattle.topo_base.specs.SignedEdge.{IsSignedEdge}
@@ -58,6 +58,20 @@ HasIdsInRange (script.Islands f) = f ≤ LARGEST_ID
 HasIdsInRange (script.Regions f) = f ≤ LARGEST_ID
 HasIdsInRange (script.Common f g) = (f ≤ LARGEST_ID) × (g ≤ LARGEST_ID)
 HasIdsInRange script.Counts = Unit {0}
+
+-- these bytes are the text of the query that a line asks, whose ids are in range
+abbrev pub IsText : Line → List ℕ → Type 0
+IsText script.Long bytes = ⊥
+IsText script.Blank bytes = ⊥
+IsText (script.Ask q) bytes = HasIdsInRange q × (bytes ≡ script.text q)
+IsText script.Bad bytes = ⊥
+
+abbrev pub IsTextOf : Query → List ℕ → Type 0
+IsTextOf query bytes = IsText (line_of query) bytes
+
+-- the first of these bytes are no line feeds
+abbrev pub HasNoFeed : ℕ → List ℕ → Type 0
+HasNoFeed end bytes = (k : ℕ) → k < end → slice_index bytes k ≢ 10
 
 -- numbers up to the greatest id
 abbrev pub HasNumbersInRange : script.Item → Type 0

@@ -1,6 +1,6 @@
-//! Lines of each form and of none, and the printed items.
+//! Lines of each form and of none, the first lines of scripts, and the printed items.
 
-use crate::{Query, head, node_item, number_item, read_line, signed_item};
+use crate::{FirstLine, Query, first_line, head, node_item, number_item, read_line, signed_item};
 use std::test::Fail;
 use topo_base::{FaceId, IdNumber, NodeId, Signed, SignedNumber};
 
@@ -143,6 +143,90 @@ fn tells_lines_that_ask_nothing(rt: HostRuntime) -> Result<(), Fail> {
     ];
     for (line, query) in rows {
         assert_eq!(rt; read_line(line), query, "{line:?}");
+    }
+    Ok(())
+}
+
+#[test]
+fn tells_each_word_of_a_first_line(rt: HostRuntime) -> Result<(), Fail> {
+    let rows = [
+        ("node 3\n", 6, Query::Node(NodeId(3))),
+        ("ring 3\n", 6, Query::Ring(edge(3)?)),
+        ("next 3\n", 6, Query::Next(edge(3)?)),
+        ("ends 3\n", 6, Query::Ends(edge(3)?)),
+        ("sides 3\n", 7, Query::Sides(edge(3)?)),
+        ("face 3\n", 6, Query::Face(FaceId(3))),
+        ("adjacent 3\n", 10, Query::Adjacent(FaceId(3))),
+        ("contains 3\n", 10, Query::Contains(NodeId(3))),
+        ("islands 3\n", 9, Query::Islands(FaceId(3))),
+        ("regions 3\n", 9, Query::Regions(FaceId(3))),
+        ("common 3 4\n", 10, Query::Common(FaceId(3), FaceId(4))),
+        ("counts\n", 6, Query::Counts),
+    ];
+    for (script, end, query) in rows {
+        assert!(rt; first_line(script.as_bytes()) == Some(FirstLine { end, query }));
+    }
+    Ok(())
+}
+
+#[test]
+fn reads_first_lines_to_their_line_feeds(rt: HostRuntime) -> Result<(), Fail> {
+    let rows = [
+        ("next -12\nnode 1\n", 8, Query::Next(edge(-12)?)),
+        ("face 12\nface 34", 7, Query::Face(FaceId(12))),
+        (
+            "node 123456789012345678\n",
+            23,
+            Query::Node(NodeId(123_456_789_012_345_678)),
+        ),
+        (
+            "node 9223372036854775807\n",
+            24,
+            Query::Node(NodeId(LARGEST)),
+        ),
+        ("node 9223372036854775808\n", 24, Query::Bad),
+        (
+            "ring -123456789012345678\n",
+            24,
+            Query::Ring(edge(-123_456_789_012_345_678)?),
+        ),
+        (
+            "ring -9223372036854775807\n",
+            25,
+            Query::Ring(edge(-9_223_372_036_854_775_807)?),
+        ),
+        ("ring -9223372036854775808\n", 25, Query::Bad),
+        ("face 0\n", 6, Query::Face(FaceId(0))),
+        ("node 0\n", 6, Query::Bad),
+        ("node 01\n", 7, Query::Bad),
+        ("node -1\n", 7, Query::Bad),
+        ("node \n", 5, Query::Bad),
+        ("node 7 \n", 7, Query::Bad),
+        ("ring --1\n", 8, Query::Bad),
+        ("ring -\n", 6, Query::Bad),
+        ("node 7\r\n", 7, Query::Node(NodeId(7))),
+        ("\nnode 7\n", 0, Query::Blank),
+    ];
+    for (script, end, query) in rows {
+        assert!(rt; first_line(script.as_bytes()) == Some(FirstLine { end, query }));
+    }
+    Ok(())
+}
+
+#[test]
+fn finds_no_first_line_without_a_line_feed(rt: HostRuntime) -> Result<(), Fail> {
+    let scripts = [
+        "",
+        "\r",
+        "node",
+        "node ",
+        "node 7",
+        "next -12",
+        "node 9223372036854775807",
+        "counts",
+    ];
+    for script in scripts {
+        assert!(rt; first_line(script.as_bytes()) == None);
     }
     Ok(())
 }

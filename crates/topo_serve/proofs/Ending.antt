@@ -3,7 +3,8 @@ use Rattle.std.proofs.Common.{◌≡◌, ℕ, zero, suc, ◌<◌, List, [], ◌�
 use Rattle.std.specs.Prelude.{◌==◌, false, slice_index, MatchOption}
 use Rattle.std.proofs.lemmas.Bool.{ne_eqb, eqb-true}
 use Rattle.memchr.specs.Find.{IsFirstByte, Nowhere, Passes, is_byte}
-use Rattle.topo_serve.specs.Pieces.{ended_behind, open_behind, last_line, HasNoFeed}
+use Rattle.query_text.specs.Lines.{HasNoFeed}
+use Rattle.topo_serve.specs.Pieces.{ended_behind, open_behind, last_line}
 
 no_feed : (bytes : List ℕ) (end : ℕ) → Nowhere (Passes (is_byte 10) bytes) 0 end → HasNoFeed end bytes
 no_feed bytes end none = λ k low feed. none k (omega arith) low (rw feed refl)

@@ -1,7 +1,8 @@
 -- The line whose front is kept.
 use Rattle.std.proofs.Common.{◌≡◌, ℕ, List, [], ◌∷◌, ◌++◌, length, take, drop, refl, sym, ap, ◌∙◌, arith}
 use Rattle.std.proofs.lemmas.List.{take-append-drop}
-use Rattle.topo_serve.specs.Pieces.{ended_behind, open_behind, front_ended, HasNoFeed}
+use Rattle.query_text.specs.Lines.{HasNoFeed}
+use Rattle.topo_serve.specs.Pieces.{ended_behind, open_behind, front_ended}
 use Rattle.topo_serve.proofs.Ending.{none_ended, all_open}
 
 -- it is the first of the lines that end, or none

@@ -9,5 +9,6 @@ pub mod Streaming
 pub mod Kept
 pub mod Served
 pub mod Answering
+pub mod Unknowns
 pub mod FiveItems
 pub mod Walked

@@ -1,9 +1,10 @@
 -- The lines that were read ahead are the next that end.
-use Rattle.std.proofs.Common.{◌≡◌, ℕ, ◌+◌, ◌≤◌, ◌<◌, List, [], ◌∷◌, ◌++◌, length, take, drop, get_or, refl, sym, ap, subst, ◌∙◌, add-one, arith, length-drop}
+use Rattle.std.proofs.Common.{◌≡◌, ℕ, ◌+◌, ◌≤◌, ◌<◌, List, [], ◌∷◌, ◌++◌, length, take, drop, get_or, refl, sym, ap, subst, ◌∙◌, add-one, arith, length-append, length-drop}
 use Rattle.std.proofs.Math.Seq.{drop-length}
 use Rattle.std.proofs.lemmas.List.{drop_more}
+use Rattle.query_text.specs.Lines.{HasNoFeed}
 use Rattle.topo_serve.specs.Ahead.{texts, behind, IsNext, AreNext}
-use Rattle.topo_serve.specs.Pieces.{ended_behind, open_behind, HasNoFeed}
+use Rattle.topo_serve.specs.Pieces.{ended_behind, open_behind}
 use Rattle.topo_serve.specs.declared.ahead.LineAhead.{LineAhead}
 use Rattle.topo_serve.proofs.Ending.{first_ended, open_after}
 
@@ -21,6 +22,9 @@ pub behind_more : (ls : List LineAhead) (l : LineAhead) (bytes rest : List ℕ) 
 unfolding behind
 behind_more [] l bytes rest e = ap (drop (l.end + 1)) e
 behind_more (x ∷ ls) l bytes rest e = behind_more ls l (drop (x.end + 1) bytes) rest e
+
+pub some_more : (ls more : List LineAhead) (l : LineAhead) → more ≡ ls ++ l ∷ [] → 1 ≤ length more
+some_more ls more l e = omega (arith, ap length e, length-append ls (l ∷ []))
 
 -- the line at a place of a list, and those behind it
 pub line_here : (ls : List LineAhead) (i : ℕ) (l : LineAhead) → i < length ls → l ≡ get_or ls i l → drop i ls ≡ l ∷ drop (i + 1) ls

@@ -1,8 +1,7 @@
 -- Lines to come that were read ahead.
 use Rattle.std.specs.Prelude.{◌≡◌, ◌<◌, ℕ, ◌+◌, slice_index, List, [], ◌∷◌, length, take, drop}
 use Rattle.topo_base.specs.Script.{line}
-use Rattle.query_text.specs.Lines.{line_of}
-use Rattle.topo_serve.specs.Pieces.{HasNoFeed}
+use Rattle.query_text.specs.Lines.{HasNoFeed, line_of}
 use Rattle.topo_serve.specs.declared.ahead.LineAhead.{LineAhead}
 
 -- the bytes of lines, where the first of them begins these bytes, and each other one stands behind the line feed before

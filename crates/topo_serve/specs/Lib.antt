@@ -3,3 +3,4 @@ pub mod Gathering
 pub mod Items
 pub mod Pieces
 pub mod Serving
+pub mod Unknown

@@ -1,5 +1,5 @@
 -- Lines that come in pieces.
-use Rattle.std.specs.Prelude.{◌≢◌, ◌<◌, ℕ, ◌==◌, slice_index, if◌then◌else◌, List, [], ◌∷◌, ◌++◌, length, filter, take}
+use Rattle.std.specs.Prelude.{ℕ, ◌==◌, if◌then◌else◌, List, [], ◌∷◌, ◌++◌, length, filter, take}
 use Rattle.topo_base.specs.Script.{lines}
 
 -- the lines of some bytes whose line feeds stand among them: as many as there are line feeds
@@ -24,10 +24,6 @@ open_behind front (b ∷ bytes) = if b == 10 then open_behind [] bytes else open
 abbrev pub front_ended : List ℕ → List ℕ → List (List ℕ)
 front_ended [] bytes = []
 front_ended (b ∷ front) bytes = take 1 (ended_behind (b ∷ front) bytes)
-
--- the first of these bytes are no line feeds
-abbrev pub HasNoFeed : ℕ → List ℕ → Type 0
-HasNoFeed end bytes = (k : ℕ) → k < end → slice_index bytes k ≢ 10
 
 -- a last line without a line feed, which is one only where it has a byte
 abbrev pub last_line : List ℕ → List (List ℕ)

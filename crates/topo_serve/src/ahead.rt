@@ -3,15 +3,14 @@
 ghost use Rattle.std.specs.Prelude.{◌≡◌, ◌<◌, ◌≤◌, ◌+◌, ◌*◌, length};
 ghost use Rattle.pemb_file.specs.OpenFile.{contents_of_file};
 ghost use Rattle.navigate.specs.Bound.{map_with, words_ahead};
-ghost use Rattle.topo_serve.specs.Ahead.{AreNext, behind};
-ghost use Rattle.topo_serve.specs.Pieces.{HasNoFeed};
+ghost use Rattle.query_text.specs.Lines.{HasNoFeed};
+ghost use Rattle.topo_serve.specs.Ahead.{AreNext, IsNext, behind};
 
-use crate::line::line_end;
 use arrayvec::ArrayVec;
 use bit_words::Steps;
 use navigate::look_ahead;
 use pemb_file::{IdsAhead, OpenFile};
-use query_text::{Query, read_line};
+use query_text::{Query, first_line};
 use std::sync::ledger::Ledger;
 
 /// How many lines are read ahead: as many as have their ids looked up together.
@@ -36,20 +35,26 @@ impl Default for LineAhead {
 /// The next lines, in their order.
 pub(crate) type LinesAhead = ArrayVec<LineAhead, AHEAD>;
 
-/// Reads the next lines that end in these bytes, as many as are read ahead, or all.
-pub(crate) fn lines_ahead(script: &[u8]) -> LinesAhead
+/// The next lines that end in these bytes, as many as are read ahead, or all, from the first on, which was read before.
+pub(crate) fn lines_from(first: LineAhead, script: &[u8]) -> LinesAhead
+    requires { IsNext first script.now }
     ensures next { AreNext result.items script.now }
+    ensures some { 1 ≤ length result.items }
     ensures few { length result.items < AHEAD → let left = behind result.items script.now in
         HasNoFeed (length left) left }
 {
     let mut lines = LinesAhead::new();
-    let mut rest = script;
+    let mut rest = &script[first.end + 1..];
+    lines.push(first);
     while !lines.is_full() {
-        let Some(end) = line_end(rest) else {
+        let Some(line) = first_line(rest) else {
             return lines;
         };
-        let query = read_line(&rest[..end]);
-        lines.push(LineAhead { end, query });
+        let end = line.end;
+        lines.push(LineAhead {
+            end,
+            query: line.query,
+        });
         rest = &rest[end + 1..];
     }
     lines

@@ -436,6 +436,19 @@ fn gather_head<K: Sink>(out: &mut K, text: &mut Gathered, line: &[u8]) -> Result
     gather_both(out, text, without_return(line), b":")
 }
 
+/// The answer to a line that asks for what the map lacks.
+pub(crate) fn answer_unknown<K: Sink>(
+    line: &[u8],
+    out: &mut K,
+    text: &mut Gathered,
+) -> Result<(), Failed>
+    requires { IsAsk (line_said line.now) }
+    ensures { Writes result (out_at (K.held out.old) (K.faults out.old) text.old.items)
+        (out_at (K.held out.new) (K.faults out.new) text.new.items) (without_cr line.now ++ codes ": unknown\n") }
+{
+    gather_both(out, text, without_return(line), b": unknown\n")
+}
+
 /// The answer to a line that asks a query: its text, a colon, what follows it, and a line feed.
 fn answer_query<K: Sink, C: Ledger>(
     served: &Served<'_>,

@@ -26,6 +26,7 @@ pub(crate) fn put_out<K: Sink>(out: &mut K, text: &mut Gathered) -> Result<(), F
 }
 
 /// Gathers some bytes, behind those that are still to be written.
+#[inline(always)]
 pub(crate) fn gather<K: Sink>(out: &mut K, text: &mut Gathered, bytes: &[u8]) -> Result<(), Failed>
     requires { length bytes.now ≤ 64 }
     ensures { Writes result (out_at (K.held out.old) (K.faults out.old) text.old.items)
@@ -58,13 +59,14 @@ pub(crate) fn gather_spaced<K: Sink>(
 }
 
 /// Gathers some bytes and others behind them.
+#[inline(always)]
 pub(crate) fn gather_both<K: Sink>(
     out: &mut K,
     text: &mut Gathered,
     front: &[u8],
     back: &[u8],
 ) -> Result<(), Failed>
-    requires { length front.now + length back.now ≤ 256 }
+    requires { length front.now + length back.now ≤ 512 }
     ensures { Writes result (out_at (K.held out.old) (K.faults out.old) text.old.items)
         (out_at (K.held out.new) (K.faults out.new) text.new.items) (front.now ++ back.now) }
 {

@@ -11,6 +11,7 @@ mod line;
 mod next_items;
 mod piece;
 mod serving;
+mod unknown;
 mod walks;
 
 pub use fault::ServeFault;

@@ -1,7 +1,8 @@
 //! The line that is being read.
 
 ghost use Rattle.std.specs.Prelude.{◌≡◌, ◌<◌, ◌++◌, length, slice_index, MatchOption};
-ghost use Rattle.topo_serve.specs.Pieces.{cut, HasNoFeed};
+ghost use Rattle.query_text.specs.Lines.{HasNoFeed};
+ghost use Rattle.topo_serve.specs.Pieces.{cut};
 
 use arrayvec::ArrayVec;
 use memchr::memchr;

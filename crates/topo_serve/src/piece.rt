@@ -11,13 +11,15 @@ ghost use Rattle.topo_serve.specs.Gathering.{out_at, Writes};
 ghost use Rattle.topo_serve.specs.Pieces.{cut, ended_behind, open_behind, front_ended};
 ghost use Rattle.topo_serve.specs.Serving.{over_lines, words_to_answer, words_of_line, found_by_reads};
 
-use crate::ahead::{LineAhead, lines_ahead, look_up};
-use crate::answer::{answer_line, answer_read};
+use crate::ahead::{LineAhead, lines_from, look_up};
+use crate::answer::{answer_line, answer_read, answer_unknown};
 use crate::gathered::{Gathered, put_out};
 use crate::line::{Line, go_on, line_end};
+use crate::unknown::is_unknown;
 use bit_words::Steps;
 use pemb_file::{OpenFile, Served};
 use ports::{Failed, Sink};
+use query_text::first_line;
 use scratch_region::Marks;
 use std::sync::ledger::Ledger;
 
@@ -129,7 +131,8 @@ fn answer_ahead<'a, K: Sink, C: Ledger>(
     Ok(rest)
 }
 
-/// Answers each line that ends in these bytes, some of them read ahead at a time. Gives the bytes behind the last.
+/// Answers each line that ends in these bytes, some of them read ahead at a time, and those at once whose ids are past
+/// the last. Gives the bytes behind the last line.
 fn answer_lines<'a, K: Sink, C: Ledger>(
     file: &mut OpenFile<'_>,
     script: &'a [u8],
@@ -155,13 +158,22 @@ fn answer_lines<'a, K: Sink, C: Ledger>(
 {
     let mut rest = script;
     loop {
-        let lines = lines_ahead(rest);
-        if lines.is_empty() {
+        let Some(first) = first_line(rest) else {
             return Ok(rest);
+        };
+        if is_unknown(&Served::of(file), &first.query) {
+            answer_unknown(&rest[..first.end], out, text)?;
+            rest = &rest[first.end + 1..];
+        } else {
+            let first = LineAhead {
+                end: first.end,
+                query: first.query,
+            };
+            let lines = lines_from(first, rest);
+            look_up(file, &lines, steps);
+            let served = Served::of(file);
+            rest = answer_ahead(&served, lines.as_slice(), rest, marks, out, text, steps)?;
         }
-        look_up(file, &lines, steps);
-        let served = Served::of(file);
-        rest = answer_ahead(&served, lines.as_slice(), rest, marks, out, text, steps)?;
     }
 }
 

@@ -44,7 +44,8 @@ fn served<C: Ledger>(
 /// Each form once, one of them twice, and lines that are none.
 const FORMS: &[u8] =
     b"\n# x\r\nface 1\nadjacent 1\r\nadjacent 1\nislands 1\nislands 2\n   \ncontains 4\ncontains 5\nnode 5\n\
-counts\r\nnode 99\nnode x\nnode 0\nregions 1\ncommon 1 2\nring 1\nends 1\nsides -4\n";
+counts\r\nnode 99\nnode x\nnode 0\nregions 1\ncommon 1 2\nring 1\nends 1\nsides -4\nnext -99\r\n\
+islands 99\n";
 
 /// Lines of one byte each, by how many there are of it, and what stands behind them.
 const LINES: [(usize, u8, &[u8]); 6] = [
@@ -59,7 +60,7 @@ const LINES: [(usize, u8, &[u8]); 6] = [
 const ANSWERS: &[u8] =
     b"face 1: 1 2 3 -4\nadjacent 1: 0 2\nadjacent 1: 0 2\nislands 1: -4\nislands 2: n5\ncontains 4: 1\n\
 contains 5: 2\nnode 5:\ncounts: 5 4 2 2 2\nnode 99: unknown\nbad\nbad\nregions 1: 2 1\ncommon 1 2: 1\nring 1: 1 2 3\n\
-ends 1: 1 2\nsides -4: 1 2\nbad\nlong\nlong\nlong\nlong\nnext 1: 2\n";
+ends 1: 1 2\nsides -4: 1 2\nnext -99: unknown\nislands 99: unknown\nbad\nlong\nlong\nlong\nlong\nnext 1: 2\n";
 
 /// A script of all these lines. The last one has no line feed.
 fn script(alloc: Global) -> Result<Vec<u8>, Fail> {

@@ -9,8 +9,8 @@ use Rattle.topo_serve.proofs.Piecing.{IsAnswered}
 use Rattle.topo_serve.proofs.piece.answer_lines.Given as goal
 
 -- the lines that ended before what is left are answered
-abbrev pub invariant-loop-lines : goal.invariant-loop-lines
-invariant-loop-lines g l = record {
+abbrev pub invariant-loop-first : goal.invariant-loop-first
+invariant-loop-first g l = record {
   answered : IsAnswered (map_with (contents_of_file l.initial.file)) (words_of_line (map_with (contents_of_file l.initial.file))) (ended_behind [] l.script) (ended_behind [] l.rest) l.initial.steps l.steps
       (out_at (g.K.Sink.held l.initial.out) (g.K.Sink.faults l.initial.out) l.initial.text.items) (out_at (g.K.Sink.held l.out) (g.K.Sink.faults l.out) l.text.items);
   opens : open_behind [] l.script ≡ open_behind [] l.rest;
@@ -18,7 +18,8 @@ invariant-loop-lines g l = record {
   room : room_of l.marks ≡ room_of l.initial.marks;
   empty : IsEmpty l.marks;
   grows : l.initial.steps ≤ l.steps;
+  within : length l.rest ≤ length l.script;
 }
 
-abbrev pub decreases-loop-lines : goal.decreases-loop-lines
-decreases-loop-lines g l = length l.rest
+abbrev pub decreases-loop-first : goal.decreases-loop-first
+decreases-loop-first g l = length l.rest
