@@ -1,6 +1,7 @@
 -- Digits that are read one after another, and a sign in front of them.
-use Rattle.std.proofs.Common.{◌≡◌, ℕ, zero, suc, ◌^◌, ◌+◌, ◌-◌, ◌*◌, ◌<◌, ◌≤◌, inl, inr, true, false, ◌==◌, List, [], ◌∷◌, ◌++◌, length, take, drop, get_or, refl, sym, ap, ◌∙◌, arith, Option, Some, None, nat_lt, ℤ, pos, negsuc, ◌-ℤ◌, to_z, of_z, w64, option_map, add-one, min}
+use Rattle.std.proofs.Common.{◌≡◌, ℕ, zero, suc, ◌^◌, ◌+◌, ◌-◌, ◌*◌, ◌<◌, ◌≤◌, inl, inr, true, false, ◌==◌, List, [], ◌∷◌, ◌++◌, length, take, drop, get_or, refl, sym, ap, ◌∙◌, arith, Bool, Option, Some, None, nat_lt, ℤ, pos, negsuc, ◌-ℤ◌, to_z, of_z, w64, option_map, add-one, min}
 use Rattle.std.specs.Prelude.{option_and_then, neg_ℤ, ◌≢◌, slice_index, Result, Ok, Err, unsigned_abs}
+use Rattle.std.specs.List.{list_all}
 use Rattle.std.specs.Result.{OkIff, result_ok}
 use Rattle.std.specs.Char.{is_ascii_digit}
 use Rattle.std.proofs.Math.Facts.{to_z-of_z}
@@ -9,7 +10,8 @@ use Rattle.std.proofs.lemmas.Int.{fits_signed_from_abs}
 use Rattle.std.proofs.Math.Nat.{pow-le-pow_right, pow-succ'}
 use Rattle.std.proofs.lemmas.Bool.{cases_Bool, le-leb, ne_eqb}
 use Rattle.std.proofs.lemmas.Bool.Decides.{nat_tests}
-use Rattle.std.proofs.lemmas.List.{take_more, take_rest, length-take, get_or-take}
+use Rattle.std.proofs.lemmas.List.{take_all, take_more, take_rest}
+use Rattle.std.proofs.lemmas.List.Folds.{list_all_at}
 use Rattle.topo_base.specs.Spelling.{digits_behind, in_range, plain_decimal, positive_number, signed_number}
 use Rattle.topo_base.specs.declared.id.TheConstants.{LARGEST_ID}
 
@@ -27,24 +29,41 @@ digits_more n (c ∷ text) m b h digit =
       | inr e ↦ let no : ◌≡◌ {A = Option ℕ} None (Some m) = rw e at h in cc
     ]
 
-pub digit_more : (bytes : List ℕ) (len n b : ℕ) → len < length bytes → digits_behind 0 (take len bytes) ≡ Some n → is_ascii_digit b ≡ true → b ≡ get_or bytes len 0
-    → digits_behind 0 (take (len + 1) bytes) ≡ Some (10 * n + (b - 48))
-digit_more bytes len n b lt h digit is =
-    ap (digits_behind 0) (take_more bytes len 0 lt ∙ ap (λ c. take len bytes ++ c ∷ []) (sym is)) ∙ digits_more 0 (take len bytes) n b h digit
+pub digit_more : (bytes : List ℕ) (len n : ℕ) → len < length bytes → digits_behind 0 (take len bytes) ≡ Some n → is_ascii_digit (get_or bytes len 0) ≡ true
+    → digits_behind 0 (take (len + 1) bytes) ≡ Some (10 * n + (get_or bytes len 0 - 48))
+digit_more bytes len n lt h digit = ap (digits_behind 0) (take_more bytes len 0 lt) ∙ digits_more 0 (take len bytes) n (get_or bytes len 0) h digit
+
+-- bytes that are not all digits spell no number
+pub none_spelled : (n : ℕ) (text : List ℕ) → list_all is_ascii_digit text ≡ false → digits_behind n text ≡ None
+unfolding digits_behind
+none_spelled n [] h = let no : ◌≡◌ {A = Bool} true false = h in cc
+none_spelled n (c ∷ text) h =
+    elim (cases_Bool (is_ascii_digit c)) [ inl e ↦ rw e (none_spelled (10 * n + (c - 48)) text (rw e at h)) | inr e ↦ rw e refl ]
+
+-- what was told of all bytes, one after another
+pub told_of_all : (bytes : List ℕ) (k : ℕ) (told : Bool) → length bytes ≤ k → told ≡ list_all is_ascii_digit (take k bytes) → list_all is_ascii_digit bytes ≡ told
+told_of_all bytes k told le h = sym (h ∙ ap (list_all is_ascii_digit) (take_all k bytes le))
+
+pub digit_at : (bytes : List ℕ) (k : ℕ) → list_all is_ascii_digit bytes ≡ true → k < length bytes → is_ascii_digit (get_or bytes k 0) ≡ true
+digit_at bytes k h lt =
+    elim (cases_Bool (is_ascii_digit (get_or bytes k 0))) [
+      | inl e ↦ e
+      | inr e ↦ absurd (let no : ◌≡◌ {A = Bool} true false = sym h ∙ list_all_at is_ascii_digit bytes k 0 lt e in cc)
+    ]
 
 -- what is known of a place among the first nineteen bytes
-pub record IsEarly (bytes : List ℕ) (few len : ℕ) : Type 0 where
+pub record IsEarly (bytes : List ℕ) (len : ℕ) : Type 0 where
   pub low : len ≤ 18
   pub inside : len < length bytes
-  pub same : get_or (take few bytes) len 0 ≡ get_or bytes len 0
 
-pub early : (bytes : List ℕ) (few len : ℕ) → few ≡ min (length bytes) 19 → len < length (take few bytes) → IsEarly bytes few len
-early bytes few len least lt =
-    let most : length (take few bytes) ≡ min few (length bytes) = length-take few bytes in
-    record { low = omega arith; inside = omega arith; same = get_or-take few bytes len 0 (omega arith) }
+pub early : (bytes : List ℕ) (few len : ℕ) → few ≡ min (length bytes) 19 → len < few → IsEarly bytes len
+early bytes few len least lt = record { low = omega arith; inside = omega arith }
 
 pub digit_value : (b : ℕ) → is_ascii_digit b ≡ true → b - 48 ≤ 9
 digit_value b h = grind (arith, nat_tests)
+
+pub digit_least : (b : ℕ) → is_ascii_digit b ≡ true → 48 ≤ b
+digit_least b h = grind (arith, nat_tests)
 
 -- so many digits make no greater number
 pub below_many : (len n most : ℕ) → n < 10 ^ len → len ≤ most → n < 10 ^ most

@@ -1,8 +1,8 @@
 //! The first line of a script: a plain one, such as most are, is read in one pass to its line feed.
 
-ghost use Rattle.std.specs.Prelude.{◌≡◌, ◌<◌, ◌∷◌, ◌++◌, Some, IfSome, MatchOption, length, slice_index, take};
+ghost use Rattle.std.specs.Prelude.{◌≡◌, ◌<◌, ◌≤◌, ◌^◌, ◌∷◌, ◌++◌, Some, IfSome, MatchOption, length, slice_index, take};
 ghost use Rattle.topo_base.specs.Script.{line};
-ghost use Rattle.topo_base.specs.Spelling.{positive_number, signed_number};
+ghost use Rattle.topo_base.specs.Spelling.{digits_behind, positive_number, signed_number};
 ghost use Rattle.query_text.specs.Forms.{word_of};
 ghost use Rattle.query_text.specs.Lines.{HasNoFeed, IsTextOf, line_of};
 
@@ -29,16 +29,16 @@ impl Default for FirstLine {
     }
 }
 
-/// A number from 1 on, and how many digits spell it.
+/// A number, and how many digits spell it.
 #[derive(Clone, Copy)]
-struct EndedNumber {
+struct SpelledNumber {
     len: usize,
     number: IdNumber,
 }
 
 /// A signed edge, and how many bytes spell it.
 #[derive(Clone, Copy)]
-struct EndedEdge {
+struct SpelledEdge {
     len: usize,
     edge: Signed,
 }
@@ -46,29 +46,71 @@ struct EndedEdge {
 /// More digits than a number has that is read here: one of fewer is an id, whatever its digits are.
 const MANY_DIGITS: usize = 19;
 
+/// The number that eight bytes spell, where all are digits. All are looked at, with no branch between them.
+fn eight_digits(bytes: &[u8; 8]) -> Option<IdNumber>
+    ensures number { result ≡ digits_behind 0 bytes.now }
+    ensures small { IfSome result (λ number. number < 10 ^ 8) }
+{
+    let mut digits = true;
+    for byte in bytes {
+        digits &= byte.is_ascii_digit();
+    }
+    if !digits {
+        return None;
+    }
+    let mut number = 0;
+    for byte in bytes {
+        number = 10 * number + IdNumber::from(*byte - b'0');
+    }
+    Some(number)
+}
+
+/// The number that the first eight bytes spell, where there are so many and all are digits.
+fn first_eight(bytes: &[u8]) -> Option<IdNumber>
+    ensures within { IfSome result (λ number. 8 ≤ length bytes.now) }
+    ensures number { IfSome result (λ number. digits_behind 0 (take 8 bytes.now) ≡ Some number) }
+    ensures small { IfSome result (λ number. number < 10 ^ 8) }
+{
+    eight_digits(bytes.first_chunk::<8>()?)
+}
+
+/// The digits in front that are read at once: eight, or none.
+fn front_digits(bytes: &[u8]) -> SpelledNumber
+    ensures within { result.len ≤ length bytes.now }
+    ensures number { digits_behind 0 (take result.len bytes.now) ≡ Some result.number }
+    ensures small { result.number < 10 ^ result.len }
+{
+    match first_eight(bytes) {
+        Some(number) => SpelledNumber { len: 8, number },
+        None => SpelledNumber { len: 0, number: 0 },
+    }
+}
+
 /// The number that digits spell from the first byte to a line feed, where they are fewer than many.
-fn ended_number(bytes: &[u8]) -> Option<EndedNumber>
+fn ended_number(bytes: &[u8]) -> Option<SpelledNumber>
     ensures within { IfSome result (λ found. found.len < length bytes.now) }
     ensures feed { IfSome result (λ found. slice_index bytes.now found.len ≡ 10) }
     ensures number { IfSome result (λ found. positive_number (take found.len bytes.now) ≡ Some found.number) }
 {
     let few = bytes.len().min(MANY_DIGITS);
-    let mut number = 0;
-    for (len, byte) in bytes[..few].iter().enumerate() {
+    let front = front_digits(bytes);
+    let mut number = front.number;
+    for len in front.len..few {
+        let byte = bytes[len];
         if !byte.is_ascii_digit() {
-            return if *byte == b'\n' && number > 0 && bytes[0] != b'0' {
-                Some(EndedNumber { len, number })
+            return if byte == b'\n' && number > 0 && bytes[0] != b'0' {
+                Some(SpelledNumber { len, number })
             } else {
                 None
             };
         }
-        number = 10 * number + IdNumber::from(*byte - b'0');
+        number = 10 * number + IdNumber::from(byte - b'0');
     }
     None
 }
 
 /// The signed edge that is spelled from the first byte to a line feed.
-fn ended_edge(bytes: &[u8]) -> Option<EndedEdge>
+fn ended_edge(bytes: &[u8]) -> Option<SpelledEdge>
     ensures within { IfSome result (λ found. found.len < length bytes.now) }
     ensures feed { IfSome result (λ found. slice_index bytes.now found.len ≡ 10) }
     ensures edge { IfSome result (λ found. signed_number (take found.len bytes.now) ≡ Some found.edge) }
@@ -77,7 +119,7 @@ fn ended_edge(bytes: &[u8]) -> Option<EndedEdge>
         [b'-', digits @ ..] => {
             let found = ended_number(digits)?;
             let edge = Signed::new(-SignedNumber::try_from(found.number).ok()?)?;
-            Some(EndedEdge {
+            Some(SpelledEdge {
                 len: found.len + 1,
                 edge,
             })
@@ -85,7 +127,7 @@ fn ended_edge(bytes: &[u8]) -> Option<EndedEdge>
         _ => {
             let found = ended_number(bytes)?;
             let edge = Signed::new(SignedNumber::try_from(found.number).ok()?)?;
-            Some(EndedEdge {
+            Some(SpelledEdge {
                 len: found.len,
                 edge,
             })
@@ -142,63 +184,63 @@ fn plain_query(form: Form, rest: &[u8]) -> Option<FirstLine>
 {
     match form {
         Form::Node => {
-            let EndedNumber { len, number } = ended_number(rest)?;
+            let SpelledNumber { len, number } = ended_number(rest)?;
             Some(FirstLine {
                 end: len,
                 query: Query::Node(NodeId(number)),
             })
         }
         Form::Ring => {
-            let EndedEdge { len, edge } = ended_edge(rest)?;
+            let SpelledEdge { len, edge } = ended_edge(rest)?;
             Some(FirstLine {
                 end: len,
                 query: Query::Ring(edge),
             })
         }
         Form::Next => {
-            let EndedEdge { len, edge } = ended_edge(rest)?;
+            let SpelledEdge { len, edge } = ended_edge(rest)?;
             Some(FirstLine {
                 end: len,
                 query: Query::Next(edge),
             })
         }
         Form::Ends => {
-            let EndedEdge { len, edge } = ended_edge(rest)?;
+            let SpelledEdge { len, edge } = ended_edge(rest)?;
             Some(FirstLine {
                 end: len,
                 query: Query::Ends(edge),
             })
         }
         Form::Sides => {
-            let EndedEdge { len, edge } = ended_edge(rest)?;
+            let SpelledEdge { len, edge } = ended_edge(rest)?;
             Some(FirstLine {
                 end: len,
                 query: Query::Sides(edge),
             })
         }
         Form::Face => {
-            let EndedNumber { len, number } = ended_number(rest)?;
+            let SpelledNumber { len, number } = ended_number(rest)?;
             Some(FirstLine {
                 end: len,
                 query: Query::Face(FaceId(number)),
             })
         }
         Form::Adjacent => {
-            let EndedNumber { len, number } = ended_number(rest)?;
+            let SpelledNumber { len, number } = ended_number(rest)?;
             Some(FirstLine {
                 end: len,
                 query: Query::Adjacent(FaceId(number)),
             })
         }
         Form::Contains => {
-            let EndedNumber { len, number } = ended_number(rest)?;
+            let SpelledNumber { len, number } = ended_number(rest)?;
             Some(FirstLine {
                 end: len,
                 query: Query::Contains(NodeId(number)),
             })
         }
         Form::Islands => {
-            let EndedNumber { len, number } = ended_number(rest)?;
+            let SpelledNumber { len, number } = ended_number(rest)?;
             Some(FirstLine {
                 end: len,
                 query: Query::Islands(FaceId(number)),
